@@ -1,0 +1,4 @@
+pub mod Laws
+pub mod Refusals
+pub mod Spelling
+pub mod Witnesses
