@@ -231,3 +231,16 @@ refused-unfit older rule why e f =
     let none : rule-refusal older rule ≡ None = fits-taken older rule f in
     let z : _≡_ {A = ℕ} 0 1 = cc in
     omega arith
+
+-- a known letter that no rule makes is one of a to z
+pub no-rule-basic : (rules : List Rule) (c : ℕ) → rule-of rules c ≡ None → c < known rules → c < 26
+no-rule-basic [] c none lt = lt
+no-rule-basic (r ∷ older) c none lt =
+    ⊎-elim
+    (λ (e : eqb c (known older) ≡ true).
+    let z : _≡_ {A = Option Rule} (Some r) None = sym (cond-true (eqb c (known older)) (Some r) (rule-of older c) e) ∙ none in
+    absurd (let z : _≡_ {A = ℕ} 0 1 = cc in omega arith))
+    (λ (e : eqb c (known older) ≡ false).
+    let ne : c ≡ known older → ⊥ = eqb-false c (known older) e in
+    no-rule-basic older c (sym (cond-false (eqb c (known older)) (Some r) (rule-of older c) e) ∙ none) (omega arith))
+    (cases-bool (eqb c (known older)))

@@ -1,0 +1,5 @@
+pub mod Answers
+pub mod Holding
+pub mod Refusals
+pub mod Rows
+pub mod Seats
