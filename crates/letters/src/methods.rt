@@ -14,13 +14,23 @@ use model::RuleRefusal;
 use std::alloc::AllocError;
 use std::alloc::Global;
 
+// No more rules are made.
+const MOST_RULES: usize = 512;
+
+// A block has as many letters as lie between these two.
+const LEAST_COUNT: u32 = 2;
+const MOST_COUNT: u32 = 1_000_000;
+
+// No letter spells more letters.
+const MOST_LENGTH: u64 = 1_000_000_000_000;
+
 impl Letters {
     // No rule yet, and room for all that may come.
     pub fn new(heap: Global) -> Result<Letters, AllocError>
         ensures { λ r. ⌜ made r (λ l. rules-of l ≡ []) ⌝ }
     {
-        let rules = Vec::with_capacity(heap, 512)?;
-        let lengths = Vec::with_capacity(heap, 512)?;
+        let rules = Vec::with_capacity(heap, MOST_RULES)?;
+        let lengths = Vec::with_capacity(heap, MOST_RULES)?;
         Ok(Letters { rules, lengths })
     }
 
@@ -74,9 +84,9 @@ impl Letters {
     fn room(&self, length: u64) -> Result<u64, RuleRefusal>
         ensures { λ r. ⌜ r ≡ room-for (rules-of (now (self .entry))) length ⌝ }
     {
-        if self.rules.len() >= 512 {
+        if self.rules.len() >= MOST_RULES {
             Err(RuleRefusal::TooManyRules)
-        } else if length > 1_000_000_000_000 {
+        } else if length > MOST_LENGTH {
             Err(RuleRefusal::TooLong)
         } else {
             Ok(length)
@@ -120,7 +130,7 @@ impl Letters {
         let Some(one) = self.length(a) else {
             return Err(RuleRefusal::UnknownLetter);
         };
-        if count < 2 || count > 1_000_000 {
+        if count < LEAST_COUNT || count > MOST_COUNT {
             return Err(RuleRefusal::CountOutOfRange);
         }
         self.room(u64::from(count) * one)

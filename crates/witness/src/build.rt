@@ -16,6 +16,12 @@ use model::RuleRefusal;
 use std::alloc::AllocError;
 use std::alloc::Global;
 
+// All words together have no more letters.
+const MOST_LETTERS: usize = 1024;
+
+// There are as many variables, A to Z.
+const VARIABLES: u8 = 26;
+
 // Making a witness: rules and letters are added one by one, and what would break it is refused and changes nothing.
 impl Witness {
     // No rule and no variable, and room for all that may come: nothing after this can lack memory.
@@ -23,8 +29,8 @@ impl Witness {
         ensures { λ r. ⌜ made r (λ w. contents-of w ≡ nothing) ⌝ }
     {
         let made = Letters::new(heap)?;
-        let letters = Vec::with_capacity(heap, 1024)?;
-        let seats = Vec::with_capacity(heap, 26)?;
+        let letters = Vec::with_capacity(heap, MOST_LETTERS)?;
+        let seats = Vec::with_capacity(heap, VARIABLES as usize)?;
         Ok(Witness {
             made,
             letters,
@@ -66,7 +72,7 @@ impl Witness {
             (λ _. (word-refusal (contents-of (now (self .entry))) variable ≡ None) × (contents-of (now (self .exit)) ≡ with-word variable (contents-of (now (self .entry)))))
             (λ e. (word-refusal (contents-of (now (self .entry))) variable ≡ Some e) × (contents-of (now (self .exit)) ≡ contents-of (now (self .entry)))) ⌝ }
     {
-        if variable > 25 {
+        if variable >= VARIABLES {
             return Err(WordRefusal::NoSuchVariable);
         }
         if u16::from(variable) < self.least() {
@@ -89,7 +95,7 @@ impl Witness {
         if letter >= self.made.known() {
             return Err(LetterRefusal::UnknownLetter);
         }
-        if self.letters.len() >= 1024 {
+        if self.letters.len() >= MOST_LETTERS {
             return Err(LetterRefusal::TooManyLetters);
         }
         self.letters.push_reserved(letter);

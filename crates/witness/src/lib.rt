@@ -6,6 +6,7 @@ mod seats;
 mod spelling;
 mod store;
 
+pub use read::every_witness_is_valid;
 pub use refusals::LetterRefusal;
 pub use refusals::WitnessRefusal;
 pub use refusals::WordRefusal;

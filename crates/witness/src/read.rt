@@ -10,6 +10,7 @@ ghost use Rattle.model.specs.Spelling.{known, spell-word};
 ghost use Rattle.model.specs.Witnesses.{all-below, spelled, word-of};
 ghost use Rattle.witness.specs.Answers.{fill-answer, filled, length-answer, letter-answer};
 ghost use Rattle.witness.specs.Holding.{contents-of};
+ghost use Rattle.witness.specs.Laws.{Every-witness-is-valid};
 ghost use Rattle.witness.specs.Refusals.{witness-number};
 ghost use Rattle.witness.specs.Seats.{entries, tight};
 use crate::refusals::WitnessRefusal;
@@ -19,6 +20,13 @@ use crate::spelling::letter_in;
 use crate::store::Witness;
 use letters::Letters;
 use model::Rule;
+
+// Whatever calls led to it, a witness keeps its limits, its letters are known and its variables rise.
+pub fn every_witness_is_valid() -> u8
+    ensures { λ _. ⌜ Every-witness-is-valid ⌝ }
+{
+    0
+}
 
 impl WitnessRefusal {
     // The refusal's number.

@@ -28,6 +28,6 @@ returns c =
     judged rules (Block a n) (c .from .result * c .in-Some .one) (c .room .result)
     (lt-ltb a (known rules) (one .0))
     refl
-    (and-from (leb 2 n) (leb n 1000000) (le-leb 2 n (c .if-count-lt2 .left)) (le-leb n 1000000 (c .if-count-gt1000000 .left)))
+    (and-from (leb 2 n) (leb n 1000000) (le-leb 2 n (c .if-count-lt-LEAST-COUNT .left)) (le-leb n 1000000 (c .if-count-gt-MOST-COUNT .left)))
     (ap₂ (λ x y. x * y) (c .from .ensures) (one .1) ∙ sym (length-copies n (spell rules a)))
     (c .room .ensures)

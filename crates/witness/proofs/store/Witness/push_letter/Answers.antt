@@ -31,8 +31,8 @@ returns-then-letter-known c =
     let unknown : leb (known (rules-of (s .made))) (c .args .letter) ≡ true = le-leb (known (rules-of (s .made))) (c .args .letter) (omega (arith, c .known .ensures .value)) in
     (simp (begun, unknown), refl)
 
-pub returns-then-len-ge1024 : need.returns-then-len-ge1024
-returns-then-len-ge1024 c =
+pub returns-then-len-ge-MOST-LETTERS : need.returns-then-len-ge-MOST-LETTERS
+returns-then-len-ge-MOST-LETTERS c =
     let s = c .args .self .now in
     let es = entries (reverse (s .seats .items)) (s .letters .items) in
     let some = eqb-false (s .seats .len) 0 (sym (c .if-is-empty .ensures tt)) in
