@@ -1,5 +1,5 @@
 -- No listing is longer than 20,000 bytes. Assumes nothing.
-use mathlib.Core.Path.{_≡_, sym, ap, _∙_}
+use mathlib.Core.Path.{_≡_, ap, _∙_}
 use mathlib.Core.Bool.{true}
 use mathlib.Core.List.{List, [], _∷_, _++_}
 use Prim.Native.Nat.{ℕ, _+_, _*_, _^_, _<_, _≤_}
@@ -13,12 +13,13 @@ use Rattle.std.proofs.shelf.Tests.{and-parts, cond-both}
 use Rattle.model.specs.declared.Rule.{Rule}
 use Rattle.model.specs.declared.Rule.the-variants.{Pair, Block}
 use Rattle.model.specs.Spelling.{Word, known, spell-word}
-use Rattle.model.specs.Witnesses.{Contents, Entry, rule-fits, rules-fit, all-below, letters-in, least, entry-fits, entries-fit, valid}
+use Rattle.model.specs.Witnesses.{Contents, Entry, rule-fits, rules-fit, all-below, letters-in, least, entry-fits, entries-fit}
 use Rattle.model.proofs.Fitting.{rules-few}
 use Rattle.text.specs.Names.{letter-name}
 use Rattle.text.specs.Pieces.{Bytes, between, lines-text}
 use Rattle.text.proofs.Cuts.{lines-append}
-use Rattle.format.specs.Listing.{Within, letter-names, word-text, rule-line, rule-lines, entry-line, entry-head, entry-lines, listing}
+use Rattle.format.specs.Bounds.{Within}
+use Rattle.format.specs.Listing.{letter-names, word-text, rule-line, rule-lines, entry-line, entry-head, entry-lines, listing}
 use Rattle.format.specs.Reading.{Every-listing-fits}
 use Rattle.format.proofs.Lines.{rule-within, entry-after, spelled-short}
 use Rattle.format.proofs.Words.{below-parts}
@@ -66,7 +67,7 @@ word-le n [] lt h = lit≤ tt
 word-le n (a ∷ w) lt h = omega (arith, names-le n a w lt h)
 
 -- an entry's line without its newline
-pub entry-length : (rules : List Rule) (e : Entry) → length (entry-line rules e) ≡ 2 + (length (decimal (length (spell-word rules (e .word)))) + (1 + length (word-text (e .word))))
+entry-length : (rules : List Rule) (e : Entry) → length (entry-line rules e) ≡ 2 + (length (decimal (length (spell-word rules (e .word)))) + (1 + length (word-text (e .word))))
 entry-length rules e = omega (arith, length-append (decimal (length (spell-word rules (e .word)))) (32 ∷ word-text (e .word)))
 
 entries-le : (rules : List Rule) (entries : List Entry) → rules-fit rules ≡ true → entries-fit rules entries ≡ true → length (lines-text (entry-lines rules entries)) ≤ 21 * length entries + 5 * letters-in entries

@@ -1,8 +1,8 @@
 -- Each line shows what it brings, and has no newline in it. Assumes nothing.
-use mathlib.Core.Path.{_≡_, refl, sym, ap, _∙_}
+use mathlib.Core.Path.{_≡_, refl, sym, ap}
 use mathlib.Core.Bool.{true, _&&_}
 use mathlib.Core.List.{List, [], _∷_, _++_, append-assoc}
-use Prim.Native.Nat.{ℕ, _+_, _*_, _^_, _<_, _≤_}
+use Prim.Native.Nat.{ℕ, _+_, _^_, _<_, _≤_}
 use native.Mathlib.Omega.{arith}
 use lib.Chars.{codes}
 use lib.Dec.{leb, ltb, lit<}
@@ -16,12 +16,13 @@ use Rattle.model.specs.declared.Rule.{Rule}
 use Rattle.model.specs.declared.Rule.the-variants.{Pair, Block}
 use Rattle.model.specs.Spelling.{known, spell-word}
 use Rattle.model.specs.Witnesses.{Entry, lower, counted, rule-fits, rules-fit, all-below, letters-in, least, entry-fits, entries-fit, valid}
-use Rattle.model.proofs.Fitting.{Fits-after, fits-after, pair-lower, block-lower, block-counted, rules-few, spell-word-short}
+use Rattle.model.proofs.Fitting.{fits-after, pair-lower, block-lower, block-counted, rules-few, spell-word-short}
 use Rattle.text.specs.Names.{letter-name, variable-name}
-use Rattle.text.specs.Pieces.{Bytes, free, Line}
+use Rattle.text.specs.Pieces.{free, Line}
 use Rattle.text.proofs.Cuts.{free-cons, free-between, same-between, no-cut}
 use Rattle.text.proofs.Names.{free-decimal, free-letter, same-letter}
-use Rattle.format.specs.Listing.{Within, row, word-text, rule-fields, rule-line, entry-line, rule-head, entry-head, rule-lines, entry-lines}
+use Rattle.format.specs.Bounds.{Within}
+use Rattle.format.specs.Listing.{row, word-text, rule-fields, rule-line, entry-line, rule-head, entry-head, rule-lines, entry-lines}
 use Rattle.format.specs.Steps.{State, Start, Ruling, Gapped, Giving, Move, fits, line, after, contents, written}
 use Rattle.format.proofs.Words.{free-word, same-word}
 
@@ -80,7 +81,7 @@ rule-same older r q hr hq e =
     same-rule-line (known older) 1000001 (known older) (known older) r q (omega arith) (omega arith) (omega arith) (omega arith) (w .1) (rule-within older q hq .1) e .1
 
 -- a rule's line is not empty
-pub rule-some : (c : ℕ) (rule : Rule) → [] ≡ rule-line c rule → ⊥
+rule-some : (c : ℕ) (rule : Rule) → [] ≡ rule-line c rule → ⊥
 rule-some c (Pair x y) e = no-cut 32 [] (letter-name c) (row (codes "pair") (letter-name x ∷ letter-name y ∷ [])) refl e
 rule-some c (Block x n) e = no-cut 32 [] (letter-name c) (row (codes "block") (letter-name x ∷ decimal n ∷ [])) refl e
 

@@ -9,20 +9,20 @@ use lib.ListN.{length}
 use Rattle.std.specs.shelf.Lists.{All}
 use Rattle.std.proofs.shelf.Tests.{true≢false}
 use Rattle.model.specs.declared.Rule.{Rule}
-use Rattle.model.specs.Witnesses.{Contents, Entry, valid}
+use Rattle.model.specs.Witnesses.{Entry, valid}
 use Rattle.text.specs.Pieces.{Bytes, Line, lines-text}
 use Rattle.text.proofs.Cuts.{first-lines, lines-append, same-lines, same-cut, no-cut}
 use Rattle.format.specs.Listing.{lines, listing}
 use Rattle.format.specs.Reading.{Begins, Refused, One-line}
-use Rattle.format.specs.Steps.{State, Start, Giving, contents, giving, Run, Stuck}
+use Rattle.format.specs.Steps.{State, Start, Giving, giving, Run, Stuck}
 use Rattle.format.proofs.Runs.{run-valid, run-written, run-plain, run-same, run-front, reached, lines-plain, begins-from-run, run-from-begins}
 
-pub plain-push : (ls : List Bytes) (l : Bytes) → All Line ls → Line l → All Line (ls ++ (l ∷ []))
+plain-push : (ls : List Bytes) (l : Bytes) → All Line ls → Line l → All Line (ls ++ (l ∷ []))
 plain-push [] l h p = (p, tt)
 plain-push (k ∷ ls) l h p = (h .0, plain-push ls l (h .1) p)
 
 -- a line that no move has ends every beginning
-pub dead : (good : List Bytes) (t : State) (l : Bytes) → Run Start good t → Line l → Stuck t l → Begins (lines-text good ++ (l ++ 10 ∷ [])) → ⊥
+dead : (good : List Bytes) (t : State) (l : Bytes) → Run Start good t → Line l → Stuck t l → Begins (lines-text good ++ (l ++ 10 ∷ [])) → ⊥
 dead good t l r hl stuck b =
     let plain = plain-push good l (run-plain Start good t refl r) hl in
     let u = run-from-begins (good ++ (l ∷ [])) plain (subst Begins (sym (lines-append good (l ∷ []))) b) in
@@ -89,7 +89,7 @@ refuse-end bs good t r early e = record {
 }
 
 -- two ways to begin with whole lines: the same lines, or one goes on
-abbrev pub Onward : List Bytes → Bytes → List Bytes → Type 0
+abbrev Onward : List Bytes → Bytes → List Bytes → Type 0
 Onward g r h = (l : Bytes) × Line l × ((more : List Bytes) × (h ≡ g ++ (l ∷ more)) × ((tail : Bytes) × (r ≡ l ++ 10 ∷ tail)))
 
 onward-cons : (k : Bytes) (g h : List Bytes) (r : Bytes) → Onward g r h → Onward (k ∷ g) r (k ∷ h)

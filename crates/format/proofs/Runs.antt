@@ -9,7 +9,7 @@ use Rattle.model.specs.declared.Rule.{Rule}
 use Rattle.model.specs.Witnesses.{Contents, Entry, rules-fit, entries-fit, rule-fits, entry-fits, valid}
 use Rattle.text.specs.Pieces.{Bytes, free, Line, lines-text}
 use Rattle.text.proofs.Cuts.{first-lines, lines-append, same-lines}
-use Rattle.format.specs.Listing.{rule-head, entry-head, rule-lines, lines, listing}
+use Rattle.format.specs.Listing.{rule-head, entry-head, rule-lines, lines}
 use Rattle.format.specs.Reading.{Begins, One-contents}
 use Rattle.format.specs.Steps.{State, Start, Ruling, Gapped, Giving, Move, fits, line, after, contents, written, Run}
 use Rattle.format.proofs.Lines.{valid-after, written-after, line-plain, line-same}

@@ -61,7 +61,7 @@ begins : (a : ℕ) (ls : List Bytes) → (t : Bytes) × (between 44 (letter-name
 begins a [] = ([], sym (append-nil (letter-name a)))
 begins a (l ∷ ls) = (44 ∷ between 44 l ls, refl)
 
-pub some-word : (a : ℕ) (w : Word) → 45 ∷ [] ≡ word-text (a ∷ w) → ⊥
+some-word : (a : ℕ) (w : Word) → 45 ∷ [] ≡ word-text (a ∷ w) → ⊥
 some-word a w e = let s = begins a (letter-names w) in no-dash a (s .0) (e ∙ s .1)
 
 pub same-word : (n : ℕ) (v w : Word) → n ≤ 2 ^ 64 → all-below n v ≡ true → all-below n w ≡ true → word-text v ≡ word-text w → v ≡ w

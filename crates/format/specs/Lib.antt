@@ -1,3 +1,4 @@
+pub mod Bounds
 pub mod Listing
 pub mod Reading
 pub mod Steps

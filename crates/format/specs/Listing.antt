@@ -8,7 +8,7 @@
 -- A 0 -
 -- X 7 #27,a
 use mathlib.Core.List.{List, [], _∷_, _++_}
-use Prim.Native.Nat.{ℕ, _<_}
+use Prim.Native.Nat.{ℕ}
 use lib.Chars.{codes}
 use lib.ListN.{length}
 use Rattle.std.specs.Written.{decimal}
@@ -36,11 +36,6 @@ word-text (a ∷ w) = between 44 (letter-name a) (letter-names w)
 abbrev pub rule-fields : Rule → List Bytes
 rule-fields (Pair a b) = codes "pair" ∷ letter-name a ∷ letter-name b ∷ []
 rule-fields (Block a n) = codes "block" ∷ letter-name a ∷ decimal n ∷ []
-
--- the letters are below the first bound, and a count is below the second
-abbrev pub Within : ℕ → ℕ → Rule → Type 0
-Within letters counts (Pair a b) = (a < letters) × (b < letters)
-Within letters counts (Block a n) = (a < letters) × (n < counts)
 
 -- the line of the rule that makes the letter c
 abbrev pub rule-line : ℕ → Rule → Bytes

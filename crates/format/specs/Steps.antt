@@ -1,12 +1,12 @@
 -- What stands after some lines of a listing, and which line may come next. Assumes nothing.
 use mathlib.Core.Path.{_≡_}
-use mathlib.Core.Bool.{Bool, true, false, _&&_}
+use mathlib.Core.Bool.{Bool, true, false}
 use mathlib.Core.List.{List, [], _∷_, _++_}
 use Rattle.std.specs.declared.option.Option.{Option}
 use Rattle.std.specs.declared.option.Option.the-variants.{Some, None}
 use Rattle.model.specs.declared.Rule.{Rule}
 use Rattle.model.specs.Spelling.{known}
-use Rattle.model.specs.Witnesses.{Contents, Entry, rule-fits, entry-fits, valid}
+use Rattle.model.specs.Witnesses.{Contents, Entry, rule-fits, entry-fits}
 use Rattle.text.specs.Pieces.{Bytes}
 use Rattle.format.specs.Listing.{rule-line, entry-line, rule-head, entry-head, rule-lines, lines}
 

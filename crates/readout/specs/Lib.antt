@@ -1,3 +1,4 @@
+pub mod Asking
 pub mod Replies
 pub mod Rows
 pub mod Stretches

@@ -5,7 +5,7 @@ use mathlib.Core.List.{List, [], _∷_, _++_}
 use mathlib.Core.Logic.{_⊎_}
 use Prim.Native.Nat.{ℕ, _+_}
 use lib.Chars.{codes}
-use lib.Dec.{leb}
+use lib.Dec.{leb, ltb}
 use lib.ListN.{length, take, drop}
 use Rattle.std.specs.Written.{decimal}
 use Rattle.std.specs.declared.option.Option.{Option}
@@ -17,6 +17,8 @@ use Rattle.text.specs.Pieces.{Bytes}
 use Rattle.format.specs.Listing.{listing}
 use Rattle.format.specs.Reading.{Refused}
 use Rattle.witness.specs.Answers.{as-text}
+use Rattle.listing.specs.declared.refusals.ReadRefusal.{ReadRefusal}
+use Rattle.listing.specs.declared.refusals.ReadRefusal.the-variants.{NotListing}
 use Rattle.readout.specs.declared.request.Request.{Request}
 use Rattle.readout.specs.declared.request.Request.the-variants.{Table, Stretch}
 use Rattle.readout.specs.Rows.{table}
@@ -25,14 +27,21 @@ use Rattle.readout.specs.Rows.{table}
 abbrev pub refusal-text : ℕ → ℕ → Bytes → Bytes
 refusal-text number line detail = codes "refusal line detail\n" ++ (decimal number ++ (codes " " ++ (decimal line ++ (codes " " ++ (detail ++ codes "\n")))))
 
+abbrev pub refused-line : ReadRefusal → ℕ
+refused-line (NotListing line) = line
+
 -- the text, and whether it is what was asked for
 abbrev pub Said : Type 0
 Said = Bytes × Bool
 
+-- how a refusal names a variable
+abbrev pub named : ℕ → Bytes
+named x = cond (ltb x 26) (variable-name x) (codes "-")
+
 -- of the word that a variable's word spells: so many letters from a place on
 abbrev pub stretch : ℕ → Option Word → ℕ → ℕ → Said
-stretch x None start count = (refusal-text 61 0 (variable-name x), false)
-stretch x (Some w) start count = cond (leb (start + count) (length w)) (as-text (take count (drop start w)) ++ codes "\n", true) (refusal-text 62 0 (variable-name x), false)
+stretch x None start count = (refusal-text 61 0 (named x), false)
+stretch x (Some w) start count = cond (leb (start + count) (length w)) (as-text (take count (drop start w)) ++ codes "\n", true) (refusal-text 62 0 (named x), false)
 
 -- of a listing of these contents
 abbrev pub said : Request → Contents → Said

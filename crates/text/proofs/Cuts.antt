@@ -9,10 +9,10 @@ use Rattle.std.specs.shelf.Lists.{All}
 use Rattle.std.proofs.shelf.Tests.{and-parts, and-from, not-true, eqb-false, ne-eqb, not-from-false}
 use Rattle.text.specs.Pieces.{Bytes, between, free, Line, lines-text}
 
-pub free-head : (b c : ℕ) (cs : Bytes) → free b (c ∷ cs) ≡ true → c ≡ b → ⊥
+free-head : (b c : ℕ) (cs : Bytes) → free b (c ∷ cs) ≡ true → c ≡ b → ⊥
 free-head b c cs h e = eqb-false c b (not-true (eqb c b) (and-parts (not (eqb c b)) (free b cs) h .0)) e
 
-pub free-tail : (b c : ℕ) (cs : Bytes) → free b (c ∷ cs) ≡ true → free b cs ≡ true
+free-tail : (b c : ℕ) (cs : Bytes) → free b (c ∷ cs) ≡ true → free b cs ≡ true
 free-tail b c cs h = and-parts (not (eqb c b)) (free b cs) h .1
 
 pub free-cons : (b c : ℕ) (cs : Bytes) → (c ≡ b → ⊥) → free b cs ≡ true → free b (c ∷ cs) ≡ true

@@ -6,10 +6,10 @@ use mathlib.Core.Logic.{⊎-elim}
 use Prim.Native.Nat.{ℕ, _+_, _%_, _^_, _<_, _≤_}
 use native.Mathlib.Omega.{arith}
 use lib.Dec.{ltb}
-use lib.ListN.{length, getD}
+use lib.ListN.{getD}
 use Rattle.std.specs.Written.{decimal}
 use Rattle.std.proofs.shelf.Tests.{cond-both, cond-true, cond-false, cases-lt, lt-ltb, le-ltb}
-use Rattle.std.proofs.shelf.Decimals.{decimal-by-steps, decimal-some, same-from-decimal}
+use Rattle.std.proofs.shelf.Decimals.{decimal-by-steps, same-from-decimal}
 use Rattle.text.specs.Names.{letter-name}
 use Rattle.text.specs.Pieces.{Bytes, free}
 use Rattle.text.proofs.Cuts.{free-cons, free-append}
@@ -42,7 +42,7 @@ name-made ds a e =
     (cases-lt a 26)
 
 -- one that does not is one of a to z
-pub name-basic : (bs : Bytes) (a : ℕ) → bs ≡ letter-name a → (getD bs 0 0 ≡ 35 → ⊥) → (a < 26) × (getD bs 0 0 ≡ 97 + a)
+name-basic : (bs : Bytes) (a : ℕ) → bs ≡ letter-name a → (getD bs 0 0 ≡ 35 → ⊥) → (a < 26) × (getD bs 0 0 ≡ 97 + a)
 name-basic bs a e other =
     ⊎-elim
     (λ (low : a < 26). (low, ap (λ l. getD l 0 0) (e ∙ letter-basic a low)))

@@ -13,4 +13,3 @@ letter-name a = cond (ltb a 26) ((97 + a) ∷ []) (35 ∷ decimal a)
 -- A to Z
 abbrev pub variable-name : ℕ → Bytes
 variable-name x = (65 + x) ∷ []
-

@@ -1,0 +1,18 @@
+use Rattle.text.specs.Names.{letter-name}
+use Rattle.text.specs.Reading.{Below}
+use Rattle.text.proofs.Readers.{reads-uncut, reads-first, reads-second}
+use Rattle.listing.proofs.RuleLines.{spaceless}
+use Rattle.listing.proofs.rules.pair_of.Needs as need
+
+pub returns-in-Break-first : need.returns-in-Break-first
+returns-in-Break-first c = rw (c .from-residual .ensures) (reads-uncut (Below 538) (Below 538) letter-name letter-name 32 (c .args .fields .now) (c .in-Break-first .ensures tt))
+
+pub returns-in-Break-a : need.returns-in-Break-a
+returns-in-Break-a c =
+    let cut = c .in-Continue-first .ensures tt in
+    rw (c .from-residual-in-Break-a .ensures) (reads-first (Below 538) (Below 538) letter-name letter-name 32 (c .args .fields .now) (c .in-Continue-first .first .now) (c .in-Continue-first .second .now) spaceless (cut .0) (cut .1) (c .in-Break-a .ensures tt))
+
+pub returns-in-Break-b : need.returns-in-Break-b
+returns-in-Break-b c =
+    let cut = c .in-Continue-first .ensures tt in
+    rw (c .from-residual-in-Break-b .ensures) (reads-second (Below 538) (Below 538) letter-name letter-name 32 (c .args .fields .now) (c .in-Continue-first .first .now) (c .in-Continue-first .second .now) spaceless (cut .0) (cut .1) (c .in-Break-b .ensures tt))
