@@ -19,6 +19,7 @@ const MOST_RULES: usize = 512;
 
 // A block has as many letters as lie between these two.
 const LEAST_COUNT: u32 = 2;
+
 const MOST_COUNT: u32 = 1_000_000;
 
 // No letter spells more letters.

@@ -3,7 +3,7 @@ mod entries;
 mod printing;
 mod puts;
 mod reading;
-mod refusals;
+pub mod refusals;
 mod rules;
 mod words;
 

@@ -96,7 +96,7 @@ filled-added (Some w) start count blank buffer old new long ok put more =
     (λ (t : leb (start + length blank) (length w) ≡ true). (
       sym (cond-true (leb (start + length blank) (length w)) None (Some PastWord) t),
       more ∙ ap (λ l. old ++ l) (put ∙ cond-true (leb (start + length blank) (length w)) (as-text (take (length blank) (drop start w))) blank t)
-      ∙ sym (cond-true (leb (start + length blank) (length w)) (old ++ as-text (take (length blank) (drop start w))) old t),
+          ∙ sym (cond-true (leb (start + length blank) (length w)) (old ++ as-text (take (length blank) (drop start w))) old t),
     ))
     (λ (f : leb (start + length blank) (length w) ≡ false).
     let z : _≡_ {A = Result (Unit {0}) WitnessRefusal} (Ok tt) (Err PastWord) = ok ∙ cond-false (leb (start + length blank) (length w)) (Ok tt) (Err PastWord) f in

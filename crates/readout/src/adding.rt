@@ -28,7 +28,14 @@ fn add_number(heap: Global, out: &mut Vec<u8>, n: u64) -> Result<(), AllocError>
 }
 
 // So many letters of what a variable's word spells, from a place on; or why they are not to be had.
-pub(crate) fn add_letters(heap: Global, out: &mut Vec<u8>, witness: &Witness, variable: u8, start: u64, count: usize) -> Result<Option<WitnessRefusal>, AllocError>
+pub(crate) fn add_letters(
+    heap: Global,
+    out: &mut Vec<u8>,
+    witness: &Witness,
+    variable: u8,
+    start: u64,
+    count: usize,
+) -> Result<Option<WitnessRefusal>, AllocError>
     ensures { λ r. ⌜ made r (λ o.
         (o ≡ unadded (spelled (contents-of (now (witness .entry))) variable) start count)
         × (vec-items (now (out .exit)) ≡ added (spelled (contents-of (now (witness .entry))) variable) start count (vec-items (now (out .entry))))) ⌝ }
@@ -44,7 +51,13 @@ pub(crate) fn add_letters(heap: Global, out: &mut Vec<u8>, witness: &Witness, va
 }
 
 // A refusal by its number, with a line and a detail.
-pub(crate) fn add_refusal(heap: Global, out: &mut Vec<u8>, number: u8, line: usize, detail: &[u8]) -> Result<(), AllocError>
+pub(crate) fn add_refusal(
+    heap: Global,
+    out: &mut Vec<u8>,
+    number: u8,
+    line: usize,
+    detail: &[u8],
+) -> Result<(), AllocError>
     ensures { λ r. ⌜ made r (λ _. vec-items (now (out .exit)) ≡ vec-items (now (out .entry)) ++ refusal-text number line (now (detail .entry))) ⌝ }
 {
     out.extend_from_slice(b"refusal line detail\n")?;
@@ -58,7 +71,13 @@ pub(crate) fn add_refusal(heap: Global, out: &mut Vec<u8>, number: u8, line: usi
 }
 
 // How the word of a variable begins, which spells so many letters.
-fn add_beginning(heap: Global, out: &mut Vec<u8>, witness: &Witness, variable: u8, total: u64) -> Result<(), AllocError>
+fn add_beginning(
+    heap: Global,
+    out: &mut Vec<u8>,
+    witness: &Witness,
+    variable: u8,
+    total: u64,
+) -> Result<(), AllocError>
     requires { ⌜ length-answer (spelled (contents-of (now witness)) variable) ≡ Ok total ⌝ }
     ensures { λ r. ⌜ made r (λ _. vec-items (now (out .exit)) ≡ vec-items (now (out .entry)) ++ shown (spelled (contents-of (now (witness .entry))) variable)) ⌝ }
 {
@@ -73,7 +92,12 @@ fn add_beginning(heap: Global, out: &mut Vec<u8>, witness: &Witness, variable: u
 }
 
 // The row of a variable, if it has a word.
-fn add_row(heap: Global, out: &mut Vec<u8>, witness: &Witness, variable: u8) -> Result<(), AllocError>
+fn add_row(
+    heap: Global,
+    out: &mut Vec<u8>,
+    witness: &Witness,
+    variable: u8,
+) -> Result<(), AllocError>
     requires { ⌜ variable < 26 ⌝ }
     ensures { λ r. ⌜ made r (λ _. vec-items (now (out .exit)) ≡ vec-items (now (out .entry)) ++ row variable (spelled (contents-of (now (witness .entry))) variable)) ⌝ }
 {
@@ -90,7 +114,11 @@ fn add_row(heap: Global, out: &mut Vec<u8>, witness: &Witness, variable: u8) -> 
 }
 
 // The table of all words.
-pub(crate) fn add_table(heap: Global, out: &mut Vec<u8>, witness: &Witness) -> Result<(), AllocError>
+pub(crate) fn add_table(
+    heap: Global,
+    out: &mut Vec<u8>,
+    witness: &Witness,
+) -> Result<(), AllocError>
     ensures { λ r. ⌜ made r (λ _. vec-items (now (out .exit)) ≡ vec-items (now (out .entry)) ++ table (contents-of (now (witness .entry)))) ⌝ }
 {
     out.extend_from_slice(b"variable length letters\n")?;

@@ -33,7 +33,13 @@ fn name_of(variable: u8) -> u8
 }
 
 // The text of a stretch of a variable's word with a newline, or of why it is not to be had.
-fn stretch_reply(heap: Global, witness: &Witness, variable: u8, start: u64, count: usize) -> Result<Reply, AllocError>
+fn stretch_reply(
+    heap: Global,
+    witness: &Witness,
+    variable: u8,
+    start: u64,
+    count: usize,
+) -> Result<Reply, AllocError>
     ensures { λ r. ⌜ made r (λ a. (vec-items (a .text), a .granted) ≡ stretch variable (spelled (contents-of (now (witness .entry))) variable) start count) ⌝ }
 {
     let mut text = Vec::new(heap);

@@ -7,13 +7,18 @@ use std::error::AnyError;
 use std::io::Read;
 use std::io::Write;
 
-const USAGE: &str = "usage: spell < LISTING, or spell VARIABLE START COUNT < LISTING with a variable A to Z and a count of at most 1000000";
+const USAGE: &str =
+    "usage: spell < LISTING, or spell VARIABLE START COUNT < LISTING with a variable A to Z and a count of at most 1000000";
 
 // What the arguments ask for, if they ask for something.
 fn request(words: &[String]) -> Option<Request> {
     match words {
         [] => Some(Request::Table),
-        [variable, start, count] => stretch_request(variable.as_bytes(), start.as_bytes(), count.as_bytes()),
+        [variable, start, count] => stretch_request(
+            variable.as_bytes(),
+            start.as_bytes(),
+            count.as_bytes(),
+        ),
         _ => None,
     }
 }
@@ -34,5 +39,9 @@ fn run(rt: &LibcRuntime) -> Result<bool, AnyError> {
 }
 
 fn main(rt: LibcRuntime) -> Result<(), AnyError> {
-    if rt.report(run(&rt))? { Ok(()) } else { Err("not granted".into()) }
+    if rt.report(run(&rt))? {
+        Ok(())
+    } else {
+        Err("not granted".into())
+    }
 }

@@ -1,7 +1,7 @@
 // A witness: the rules of made letters and the words of variables, from which the letters a to z of each word are read.
 mod build;
 mod read;
-mod refusals;
+pub mod refusals;
 mod seats;
 mod spelling;
 mod store;

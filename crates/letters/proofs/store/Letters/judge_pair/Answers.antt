@@ -19,7 +19,7 @@ add-first c =
       known-length (rules-of s) (c .args .a) (c .in-Some .first) (c .in-Some .ensures tt),
       known-length (rules-of s) (c .args .b) (c .in-Some-length .second) (c .in-Some-length .ensures tt),
       spell-short (rules-of s) (s .fit) (c .args .a),
-      spell-short (rules-of s) (s .fit) (c .args .b)
+      spell-short (rules-of s) (s .fit) (c .args .b),
     )
 
 pub returns : need.returns
