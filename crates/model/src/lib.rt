@@ -1,6 +1,8 @@
 // What every crate shares: the rules of made letters, what a letter spells, and what a witness holds.
 
+ghost use mathlib.Core.Path.{_≡_};
 ghost use Rattle.model.specs.Laws.{Later-rules-keep-spelling, Lengths-follow-rules, Spelling-ends-in-a-to-z};
+ghost use Rattle.model.specs.Refusals.{rule-number};
 
 // What a made letter stands for. Letters 0 to 25 are a to z; the letters made by rules follow, from 26 on.
 #[derive(Clone, Copy, PartialEq, Eq, Debug)]
@@ -24,6 +26,21 @@ pub enum RuleRefusal {
     TooManyRules,
     // the new letter would spell more than 1,000,000,000,000 letters
     TooLong,
+}
+
+impl RuleRefusal {
+    // The refusal's number.
+    pub fn number(self) -> u8
+        ensures { λ r. ⌜ r ≡ rule-number self ⌝ }
+    {
+        match self {
+            RuleRefusal::UnknownLetter => 12,
+            RuleRefusal::EqualLetters => 13,
+            RuleRefusal::CountOutOfRange => 14,
+            RuleRefusal::TooManyRules => 22,
+            RuleRefusal::TooLong => 24,
+        }
+    }
 }
 
 // A rule that is added later changes nothing that was spelled before.
