@@ -1,0 +1,15 @@
+pub mod Allowing
+pub mod Crossing
+pub mod Determined
+pub mod Exact
+pub mod Examples
+pub mod Forming
+pub mod Keeping
+pub mod Living
+pub mod Meaning
+pub mod Occurring
+pub mod Replacing
+pub mod Rows
+pub mod Soundness
+pub mod Values
+pub mod Whole

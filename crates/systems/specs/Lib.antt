@@ -1,0 +1,13 @@
+pub mod Choices
+pub mod Examples
+pub mod Fitting
+pub mod Invariants
+pub mod Loading
+pub mod Occurrences
+pub mod Refusals
+pub mod Rows
+pub mod Runs
+pub mod Sides
+pub mod Standings
+pub mod Theorems
+pub mod Values
