@@ -5,13 +5,14 @@ ghost use Prim.Native.Nat.{_≤_, _*_};
 ghost use denote.Ref.{now as target};
 ghost use lib.ListN.{length};
 ghost use Rattle.std.specs.Options.{mapped};
+ghost use Rattle.std.specs.Vec.{refused};
 ghost use Rattle.letters.specs.Holding.{rules-of};
 ghost use Rattle.model.specs.Spelling.{known, spell-word};
 ghost use Rattle.model.specs.Witnesses.{all-below, spelled, word-of};
 ghost use Rattle.witness.specs.Answers.{fill-answer, filled, length-answer, letter-answer};
 ghost use Rattle.witness.specs.Holding.{contents-of};
 ghost use Rattle.witness.specs.Laws.{Every-witness-is-valid};
-ghost use Rattle.witness.specs.Refusals.{witness-number};
+ghost use Rattle.witness.specs.Refusals.{refusal-number, witness-number};
 ghost use Rattle.witness.specs.Seats.{entries, tight};
 use crate::refusals::WitnessRefusal;
 use crate::seats::Seat;
@@ -89,7 +90,8 @@ impl Witness {
 
     // The length of what a variable's word spells: at most 1,024 times 1,000,000,000,000, so it fits.
     pub fn length(&self, variable: u8) -> Result<u64, WitnessRefusal>
-        ensures { λ r. ⌜ r ≡ length-answer (spelled (contents-of (now (self .entry))) variable) ⌝ }
+        ensures answer { λ r. ⌜ r ≡ length-answer (spelled (contents-of (now (self .entry))) variable) ⌝ }
+        ensures number { λ r. ⌜ refused r (λ e. witness-number e ≡ refusal-number (spelled (contents-of (now (self .entry))) variable)) ⌝ }
     {
         match self.word(variable) {
             Some(word) => Ok(spelled_length(&self.made, word)),
@@ -99,7 +101,8 @@ impl Witness {
 
     // The letter, from a as 0, at a place of what a variable's word spells.
     pub fn letter(&self, variable: u8, place: u64) -> Result<u8, WitnessRefusal>
-        ensures { λ r. ⌜ r ≡ letter-answer (spelled (contents-of (now (self .entry))) variable) place ⌝ }
+        ensures answer { λ r. ⌜ r ≡ letter-answer (spelled (contents-of (now (self .entry))) variable) place ⌝ }
+        ensures number { λ r. ⌜ refused r (λ e. witness-number e ≡ refusal-number (spelled (contents-of (now (self .entry))) variable)) ⌝ }
     {
         let Some(word) = self.word(variable) else {
             return Err(WitnessRefusal::Absent);
@@ -113,6 +116,7 @@ impl Witness {
     // Fills a buffer with the letters a to z of what a variable's word spells, from a place on.
     pub fn fill(&self, variable: u8, start: u64, buffer: &mut [u8]) -> Result<(), WitnessRefusal>
         ensures answer { λ r. ⌜ r ≡ fill-answer (spelled (contents-of (now (self .entry))) variable) start (length (now (buffer .entry))) ⌝ }
+        ensures number { λ r. ⌜ refused r (λ e. witness-number e ≡ refusal-number (spelled (contents-of (now (self .entry))) variable)) ⌝ }
         ensures holds { λ _. ⌜ now (buffer .exit) ≡ filled (spelled (contents-of (now (self .entry))) variable) start (now (buffer .entry)) ⌝ }
     {
         let Some(word) = self.word(variable) else {

@@ -23,4 +23,4 @@ returns-in-Ok-length c =
     let new = contents-of (c .read-word .last .witness) in
     let read = c .if-not-read-word .ensures tt in
     let f = filled d (contents-of (c .start-word .last .self)) new (c .args .line .now) (parts .variable) (parts .total) (parts .word .now) (c .in-Some .ensures tt) (c .in-Ok .ensures tt .1) read (always-valid (c .read-word .last .witness)) in
-    compared d (c .args .line .now) (parts .variable) (parts .total) (read .w) new (c .in-Ok-length .total) _ (rules-hold (c .args .witness .now)) f (c .in-Ok-length .ensures tt) refl
+    compared d (c .args .line .now) (parts .variable) (parts .total) (read .w) new (c .in-Ok-length .total) _ (rules-hold (c .args .witness .now)) f (c .in-Ok-length .ensures tt .answer) refl

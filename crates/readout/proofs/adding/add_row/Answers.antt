@@ -17,4 +17,4 @@ returns c =
       c .in-Continue-extend-from-slice .ensures tt .items,
       (_, c .in-Continue-add-number .ensures tt, (_, c .in-Continue-extend-from-slice-2 .ensures tt .items, (_, c .in-Continue-add-beginning .ensures tt, (_, c .in-Continue-extend-from-slice-3 .ensures tt .items, refl)))),
     )
-    ∙ ap (λ t. c .args .out .now .items ++ t) (sym (row-told (c .args .variable) o (c .in-Ok .total) (c .in-Ok .ensures tt)))
+    ∙ ap (λ t. c .args .out .now .items ++ t) (sym (row-told (c .args .variable) o (c .in-Ok .total) (c .in-Ok .ensures tt .answer)))

@@ -30,4 +30,4 @@ returns c =
     let w = spell-word rules (c .in-Some .word .now) in
     let within : c .args .start + length (c .args .buffer .now) ≤ length w = omega (arith, c .spelled-length-length .ensures) in
     let both = filled-whole (spelled (contents-of s) (c .args .variable)) w (c .args .start) (c .args .buffer .now) (c .fill-word .last .out) (c .fill-word .result) (ap (mapped (spell-word rules)) (sym (c .in-Some .ensures tt))) within (c .fill-word .kept .out) (c .fill-word .ensures) in
-    record { answer = both .0; holds = both .1 }
+    record { answer = both .0; number = tt; holds = both .1 }
