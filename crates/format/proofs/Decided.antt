@@ -19,9 +19,9 @@ use Rattle.text.proofs.Cuts.{free-cons, lines-append}
 use Rattle.format.specs.Listing.{rule-line, entry-line, rule-head, entry-head, listing}
 use Rattle.format.specs.Reading.{Refused, Listing-or-line}
 use Rattle.format.specs.Steps.{State, Start, Ruling, Gapped, Giving, Move, fits, line, after, Run, Stuck}
-use Rattle.format.proofs.Lines.{rule-within, entry-after}
+use Rattle.model.proofs.Entries.{below-parts, entry-after}
+use Rattle.format.proofs.Lines.{rule-within}
 use Rattle.format.proofs.Refusals.{ends, refuse-line, refuse-cut, refuse-end}
-use Rattle.format.proofs.Words.{below-parts}
 
 bytes-same : (p q : Bytes) → (p ≡ q) ⊎ (p ≡ q → ⊥)
 bytes-same [] [] = inl refl

@@ -21,8 +21,8 @@ use Rattle.text.proofs.Cuts.{lines-append}
 use Rattle.format.specs.Bounds.{Within}
 use Rattle.format.specs.Listing.{letter-names, word-text, rule-line, rule-lines, entry-line, entry-head, entry-lines, listing}
 use Rattle.format.specs.Reading.{Every-listing-fits}
-use Rattle.format.proofs.Lines.{rule-within, entry-after, spelled-short}
-use Rattle.format.proofs.Words.{below-parts}
+use Rattle.model.proofs.Entries.{below-parts, entry-after}
+use Rattle.format.proofs.Lines.{rule-within, spelled-short}
 
 name-le : (a : ℕ) → a < 1000 → length (letter-name a) ≤ 4
 name-le a lt =
@@ -30,18 +30,16 @@ name-le a lt =
     (λ _. let three : length (decimal a) ≤ 3 = length-decimal-le 3 a (lit< tt) (omega arith) (omega arith) in omega arith)
 
 -- a rule's line without its newline
-pub pair-length : (c a b : ℕ) → length (rule-line c (Pair a b)) ≡ length (letter-name c) + (6 + (length (letter-name a) + (1 + length (letter-name b))))
-pair-length c a b = length-append (letter-name c) (32 ∷ (codes "pair" ++ 32 ∷ (letter-name a ++ 32 ∷ letter-name b))) ∙ omega (arith, length-append (letter-name a) (32 ∷ letter-name b))
-
-pub block-length : (c a n : ℕ) → length (rule-line c (Block a n)) ≡ length (letter-name c) + (7 + (length (letter-name a) + (1 + length (decimal n))))
-block-length c a n = length-append (letter-name c) (32 ∷ (codes "block" ++ 32 ∷ (letter-name a ++ 32 ∷ decimal n))) ∙ omega (arith, length-append (letter-name a) (32 ∷ decimal n))
+pub rule-length : (name make first last : Bytes) → length (name ++ (make ++ (first ++ 32 ∷ last))) ≡ length name + (length make + (length first + (1 + length last)))
+rule-length name make first last =
+    omega (arith, length-append name (make ++ (first ++ 32 ∷ last)), length-append make (first ++ 32 ∷ last), length-append first (32 ∷ last))
 
 rule-le : (c : ℕ) (rule : Rule) → c < 1000 → Within c 1000001 rule → length (rule-line c rule) ≤ 23
-rule-le c (Pair a b) lt w = omega (arith, pair-length c a b, name-le c lt, name-le a (omega (arith, w .0)), name-le b (omega (arith, w .1)))
+rule-le c (Pair a b) lt w = omega (arith, rule-length (letter-name c) (codes " pair ") (letter-name a) (letter-name b), name-le c lt, name-le a (omega (arith, w .0)), name-le b (omega (arith, w .1)))
 rule-le c (Block a n) lt w =
     let few : n < 1000001 = w .1 in
     let seven : length (decimal n) ≤ 7 = length-decimal-le 7 n (lit< tt) (omega arith) (omega arith) in
-    omega (arith, block-length c a n, name-le c lt, name-le a (omega (arith, w .0)))
+    omega (arith, rule-length (letter-name c) (codes " block ") (letter-name a) (decimal n), name-le c lt, name-le a (omega (arith, w .0)))
 
 -- one more line
 pub push-length : (ls : List Bytes) (l : Bytes) → length (lines-text (ls ++ (l ∷ []))) ≡ length (lines-text ls) + (length l + 1)

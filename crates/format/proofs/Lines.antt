@@ -5,17 +5,18 @@ use mathlib.Core.List.{List, [], _∷_, _++_, append-assoc}
 use Prim.Native.Nat.{ℕ, _+_, _^_, _<_, _≤_}
 use native.Mathlib.Omega.{arith}
 use lib.Chars.{codes}
-use lib.Dec.{leb, ltb, lit<}
+use lib.Dec.{lit<}
 use lib.ListN.{length, getD}
 use Rattle.std.specs.Written.{decimal}
 use Rattle.std.specs.declared.option.Option.the-variants.{Some, None}
 use Rattle.std.specs.shelf.Lists.{All}
-use Rattle.std.proofs.shelf.Tests.{and-parts, and-from, ltb-true, leb-true}
+use Rattle.std.proofs.shelf.Tests.{and-parts, and-from}
 use Rattle.std.proofs.shelf.Decimals.{same-from-decimal}
 use Rattle.model.specs.declared.Rule.{Rule}
 use Rattle.model.specs.declared.Rule.the-variants.{Pair, Block}
 use Rattle.model.specs.Spelling.{known, spell-word}
-use Rattle.model.specs.Witnesses.{Entry, lower, counted, rule-fits, rules-fit, all-below, letters-in, least, entry-fits, entries-fit, valid}
+use Rattle.model.specs.Witnesses.{Entry, lower, counted, rule-fits, rules-fit, entry-fits, entries-fit, valid}
+use Rattle.model.proofs.Entries.{Entry-after, entry-after}
 use Rattle.model.proofs.Fitting.{fits-after, pair-lower, block-lower, block-counted, rules-few, spell-word-short}
 use Rattle.text.specs.Names.{letter-name, variable-name}
 use Rattle.text.specs.Pieces.{free, Line}
@@ -84,20 +85,6 @@ rule-same older r q hr hq e =
 rule-some : (c : ℕ) (rule : Rule) → [] ≡ rule-line c rule → ⊥
 rule-some c (Pair x y) e = no-cut 32 [] (letter-name c) (row (codes "pair") (letter-name x ∷ letter-name y ∷ [])) refl e
 rule-some c (Block x n) e = no-cut 32 [] (letter-name c) (row (codes "block") (letter-name x ∷ decimal n ∷ [])) refl e
-
--- what an entry that fits is
-pub record Entry-after (rules : List Rule) (older : List Entry) (e : Entry) : Type 0 where
-  pub rises : least older ≤ e .variable
-  pub named : e .variable < 26
-  pub low : all-below (known rules) (e .word) ≡ true
-  pub few : length (e .word) + letters-in older ≤ 1024
-
-pub entry-after : (rules : List Rule) (older : List Entry) (e : Entry) → entry-fits rules older e ≡ true → Entry-after rules older e
-entry-after rules older e h =
-    let p = and-parts (leb (least older) (e .variable) && ltb (e .variable) 26) (all-below (known rules) (e .word) && leb (length (e .word) + letters-in older) 1024) h in
-    let v = and-parts (leb (least older) (e .variable)) (ltb (e .variable) 26) (p .0) in
-    let w = and-parts (all-below (known rules) (e .word)) (leb (length (e .word) + letters-in older) 1024) (p .1) in
-    record { rises = leb-true _ _ (v .0); named = ltb-true _ _ (v .1); low = w .0; few = leb-true _ _ (w .1) }
 
 -- a word spells fewer than 10^16 letters
 pub spelled-short : (rules : List Rule) (older : List Entry) (e : Entry) → rules-fit rules ≡ true → Entry-after rules older e → length (spell-word rules (e .word)) < 10 ^ 16

@@ -5,22 +5,19 @@ use mathlib.Core.List.{List, [], _∷_, _++_, append-nil}
 use mathlib.Core.Logic.{⊎-elim}
 use Prim.Native.Nat.{ℕ, _+_, _^_, _<_, _≤_}
 use native.Mathlib.Omega.{arith}
-use lib.Dec.{ltb, lit<}
+use lib.Dec.{lit<}
 use lib.ListN.{getD}
 use Rattle.std.specs.Written.{decimal}
 use Rattle.std.specs.shelf.Lists.{All}
-use Rattle.std.proofs.shelf.Tests.{and-parts, ltb-true, cases-lt}
+use Rattle.std.proofs.shelf.Tests.{cases-lt}
 use Rattle.model.specs.Spelling.{Word}
 use Rattle.model.specs.Witnesses.{all-below}
+use Rattle.model.proofs.Entries.{below-parts}
 use Rattle.text.specs.Names.{letter-name}
 use Rattle.text.specs.Pieces.{Bytes, between, free}
 use Rattle.text.proofs.Cuts.{free-cons, same-between, free-between}
 use Rattle.text.proofs.Names.{free-letter, letter-basic, letter-made, same-letter}
 use Rattle.format.specs.Listing.{letter-names, word-text}
-
--- the first letter is below n, and so are the others
-pub below-parts : (n a : ℕ) (w : Word) → all-below n (a ∷ w) ≡ true → (a < n) × (all-below n w ≡ true)
-below-parts n a w h = let p = and-parts (ltb a n) (all-below n w) h in (ltb-true a n (p .0), p .1)
 
 free-names : (b n : ℕ) (w : Word) → b < 48 → (35 ≡ b → ⊥) → n ≤ 2 ^ 64 → all-below n w ≡ true → All (λ l. free b l ≡ true) (letter-names w)
 free-names b n [] low ne few h = tt

@@ -1,8 +1,8 @@
 -- Rules and lengths as they are stored, oldest first, with one more of each. Assumes nothing.
-use mathlib.Core.Path.{_≡_, refl, sym, ap, subst, _∙_}
+use mathlib.Core.Path.{_≡_, sym, ap, _∙_}
 use mathlib.Core.Bool.{true}
 use mathlib.Core.List.{List, [], _∷_, _++_, reverse}
-use mathlib.Core.Logic.{_⊎_, inl, inr, ⊎-elim}
+use mathlib.Core.Logic.{_⊎_, ⊎-elim}
 use Prim.Native.Nat.{ℕ, _+_, _<_, _≤_}
 use native.Mathlib.Omega.{arith}
 use lib.ListN.{length, getD}
@@ -10,7 +10,7 @@ use Rattle.std.specs.declared.option.Option.the-variants.{None}
 use Rattle.std.proofs.shelf.Lists.{length-reverse, length-push, getD-append-left, getD-push}
 use Rattle.std.proofs.shelf.Tests.{and-from, cases-lt}
 use Rattle.model.specs.declared.Rule.{Rule}
-use Rattle.model.specs.Spelling.{known, expand, spell}
+use Rattle.model.specs.Spelling.{known, spell}
 use Rattle.model.specs.Witnesses.{made-length, rule-fits, rule-refusal, rules-fit}
 use Rattle.model.proofs.Spelling.{spell-older, spell-newest}
 use Rattle.model.proofs.Fitting.{from-fits, taken-fits, newest-reverse}

@@ -23,7 +23,8 @@ use Rattle.text.proofs.Cuts.{free-cons, no-cut, same-cut}
 use Rattle.text.proofs.Names.{free-decimal}
 use Rattle.format.specs.Listing.{entry-line, row, word-text}
 use Rattle.format.specs.Steps.{Giving, Stuck}
-use Rattle.format.proofs.Lines.{entry-after, spelled-short}
+use Rattle.model.proofs.Entries.{entry-after}
+use Rattle.format.proofs.Lines.{spelled-short}
 use Rattle.format.proofs.Words.{same-word}
 use Rattle.witness.specs.Answers.{length-answer, with-word}
 use Rattle.listing.specs.Lines.{Fields, No-fields, Kept}

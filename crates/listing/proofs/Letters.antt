@@ -4,14 +4,14 @@ use mathlib.Core.Bool.{Bool, true, false, cond}
 use mathlib.Core.List.{List, [], _∷_, _++_, append-assoc, append-nil}
 use Prim.Native.Nat.{ℕ, _+_, _<_, _≤_}
 use native.Mathlib.Omega.{arith}
-use lib.Dec.{leb, ltb, lit<}
+use lib.Dec.{leb, lit<}
 use lib.ListN.{length, length-append}
 use Rattle.std.specs.Orderings.{When}
 use Rattle.std.specs.Results.{Cases, isOk}
 use Rattle.std.specs.declared.option.Option.the-variants.{Some, None}
 use Rattle.std.specs.declared.result.Result.{Result}
 use Rattle.std.specs.declared.result.Result.the-variants.{Ok, Err}
-use Rattle.std.proofs.shelf.Tests.{and-from, lt-ltb, lt-leb, leb-false}
+use Rattle.std.proofs.shelf.Tests.{lt-leb, leb-false}
 use Rattle.model.specs.Spelling.{Word, known}
 use Rattle.model.specs.Witnesses.{Contents, Entry, all-below, letters-in}
 use Rattle.text.specs.Names.{letter-name}
@@ -19,7 +19,7 @@ use Rattle.text.specs.Pieces.{Bytes, between, free}
 use Rattle.text.proofs.Cuts.{no-cut, same-cut}
 use Rattle.text.proofs.Names.{free-letter, same-letter}
 use Rattle.format.specs.Listing.{letter-names, word-text}
-use Rattle.format.proofs.Words.{below-parts}
+use Rattle.model.proofs.Entries.{below-parts, below-push}
 use Rattle.witness.specs.declared.refusals.LetterRefusal.{LetterRefusal}
 use Rattle.witness.specs.declared.refusals.LetterRefusal.the-variants.{NoWord, UnknownLetter, TooManyLetters}
 use Rattle.witness.specs.Answers.{letter-refusal, lengthened, with-letter}
@@ -71,12 +71,6 @@ none-new c = λ i. record { rules = c .rules; entries = sym (grown-none (c .entr
 
 more-new : (c d d′ : Contents) (w : Word) (a : ℕ) → d ≡ with-letters w c → d′ ≡ with-letter a d → d′ ≡ with-letters (w ++ (a ∷ [])) c
 more-new c d d′ w a e f = f ∙ ap (with-letter a) e ∙ (λ i. record { rules = c .rules; entries = grown-more w a (c .entries) i })
-
-below-push : (n : ℕ) (w : Word) (a : ℕ) → all-below n w ≡ true → a < n → all-below n (w ++ (a ∷ [])) ≡ true
-below-push n [] a h lt = and-from (ltb a n) true (lt-ltb a n lt) refl
-below-push n (b ∷ w) a h lt =
-    let p = below-parts n b w h in
-    and-from (ltb b n) (all-below n (w ++ (a ∷ []))) (lt-ltb b n (p .0)) (below-push n w a (p .1) lt)
 
 commaed-push : (w : Word) (a : ℕ) (rest : Bytes) → commaed w ++ (letter-name a ++ 44 ∷ rest) ≡ commaed (w ++ (a ∷ [])) ++ rest
 commaed-push [] a rest = sym (append-assoc (letter-name a) (44 ∷ []) rest)

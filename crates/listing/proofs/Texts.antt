@@ -8,7 +8,6 @@ use lib.ListN.{length, getD, take, drop, length-append}
 use Rattle.std.specs.Written.{decimal}
 use Rattle.std.proofs.shelf.Lists.{take-more, take-append-drop, reverse-append, length-reverse, length-take-le}
 use Rattle.model.specs.declared.Rule.{Rule}
-use Rattle.model.specs.declared.Rule.the-variants.{Pair, Block}
 use Rattle.model.specs.Spelling.{Word, known, spell-word}
 use Rattle.model.specs.Witnesses.{Contents}
 use Rattle.text.specs.Names.{letter-name, variable-name}
@@ -19,15 +18,12 @@ use Rattle.format.proofs.Lengths.{push-length}
 use Rattle.listing.specs.Tables.{entry-of}
 use Rattle.listing.specs.Words.{names-after}
 
-pub pair-text : (c a b : ℕ) → letter-name c ++ (codes " pair " ++ (letter-name a ++ (codes " " ++ (letter-name b ++ 10 ∷ [])))) ≡ rule-line c (Pair a b) ++ 10 ∷ []
-pair-text c a b =
-    ap (λ t. letter-name c ++ (codes " pair " ++ t)) (sym (append-assoc (letter-name a) (32 ∷ letter-name b) (10 ∷ [])))
-    ∙ sym (append-assoc (letter-name c) (codes " pair " ++ (letter-name a ++ 32 ∷ letter-name b)) (10 ∷ []))
-
-pub block-text : (c a n : ℕ) → letter-name c ++ (codes " block " ++ (letter-name a ++ (codes " " ++ (decimal n ++ 10 ∷ [])))) ≡ rule-line c (Block a n) ++ 10 ∷ []
-block-text c a n =
-    ap (λ t. letter-name c ++ (codes " block " ++ t)) (sym (append-assoc (letter-name a) (32 ∷ decimal n) (10 ∷ [])))
-    ∙ sym (append-assoc (letter-name c) (codes " block " ++ (letter-name a ++ 32 ∷ decimal n)) (10 ∷ []))
+-- a rule's line, with its newline
+pub rule-parts : (name make first last : Bytes) → name ++ (make ++ (first ++ (codes " " ++ (last ++ 10 ∷ [])))) ≡ (name ++ (make ++ (first ++ 32 ∷ last))) ++ 10 ∷ []
+rule-parts name make first last =
+    ap (λ t. name ++ (make ++ t)) (sym (append-assoc first (32 ∷ last) (10 ∷ [])))
+    ∙ ap (λ t. name ++ t) (sym (append-assoc make (first ++ 32 ∷ last) (10 ∷ [])))
+    ∙ sym (append-assoc name (make ++ (first ++ 32 ∷ last)) (10 ∷ []))
 
 pub entry-text : (rules : List Rule) (x : ℕ) (w : Word) → variable-name x ++ (codes " " ++ (decimal (length (spell-word rules w)) ++ (codes " " ++ (word-text w ++ 10 ∷ [])))) ≡ entry-line rules (entry-of x w) ++ 10 ∷ []
 entry-text rules x w = ap (λ t. (65 + x) ∷ 32 ∷ t) (sym (append-assoc (decimal (length (spell-word rules w))) (32 ∷ word-text w) (10 ∷ [])))

@@ -22,7 +22,7 @@ use Rattle.text.specs.Pieces.{Bytes, lines-text}
 use Rattle.text.proofs.Cuts.{lines-append}
 use Rattle.format.specs.Listing.{entry-line, entry-lines, word-text}
 use Rattle.format.proofs.Lengths.{push-length}
-use Rattle.format.proofs.Lines.{entry-after}
+use Rattle.model.proofs.Entries.{entry-after}
 use Rattle.witness.specs.Answers.{length-answer}
 use Rattle.listing.specs.Tables.{entry-of, line-of, variable-text, below}
 use Rattle.listing.proofs.Texts.{entry-text}

@@ -4,7 +4,7 @@ use mathlib.Core.List.{List, [], _∷_, _++_, append-nil, append-assoc}
 use Prim.Native.Nat.{ℕ, _+_, _<_, _≤_}
 use native.Mathlib.Omega.{arith}
 use lib.ListN.{length, take, drop, set, length-append}
-use Rattle.std.proofs.shelf.Lists.{take-more-set, take-all, drop-set-lt, drop-drop, length-push}
+use Rattle.std.proofs.shelf.Lists.{take-more-set, take-all, drop-set-lt, drop-drop}
 use Rattle.model.specs.Buffers.{Put}
 
 pub put-none : {X : Type 0} (old : List X) (at : ℕ) → Put old at [] old at

@@ -11,7 +11,7 @@ use Rattle.std.specs.declared.option.Option.{Option}
 use Rattle.std.specs.declared.option.Option.the-variants.{Some, None}
 use Rattle.std.specs.shelf.Lists.{All}
 use Rattle.std.proofs.shelf.Lists.{length-reverse, reverse-append, getD-reverse}
-use Rattle.std.proofs.shelf.Tests.{and-parts, and-from, ltb-true, ltb-false, leb-true, leb-false, lt-ltb, le-leb, le-ltb, lt-leb, cond-true, cond-false, cond-both, cases-bool, cases-lt, eqb-true, eqb-false, eq-eqb, ne-eqb, not-true}
+use Rattle.std.proofs.shelf.Tests.{and-parts, and-from, ltb-true, ltb-false, leb-true, leb-false, lt-ltb, le-leb, le-ltb, lt-leb, cond-true, cond-false, cond-both, cases-bool, cases-lt, eqb-true, eqb-false, eq-eqb, ne-eqb}
 use Rattle.model.specs.declared.Rule.{Rule}
 use Rattle.model.specs.declared.Rule.the-variants.{Pair, Block}
 use Rattle.model.specs.declared.RuleRefusal.{RuleRefusal}
@@ -19,7 +19,7 @@ use Rattle.model.specs.declared.RuleRefusal.the-variants.{UnknownLetter, Equal
 use Rattle.model.specs.Spelling.{Word, copies, known, expand, spell, spell-word, rule-of}
 use Rattle.model.specs.Witnesses.{lower, apart, counted, made-length, rule-fits, rule-refusal, rules-fit}
 use Rattle.model.specs.Laws.{Spelling-ends-in-a-to-z}
-use Rattle.model.proofs.Spelling.{spell-older, spell-newest, spell-low}
+use Rattle.model.proofs.Spelling.{spell-older, spell-newest}
 
 -- what a rule that fits is
 pub record Fits-after (older : List Rule) (rule : Rule) : Type 0 where
@@ -56,9 +56,6 @@ block-lower n a k h = ltb-true a n h
 
 pub block-counted : (a k : ℕ) → counted (Block a k) ≡ true → (2 ≤ k) × (k ≤ 1000000)
 block-counted a k h = let p = and-parts (leb 2 k) (leb k 1000000) h in (leb-true 2 k (p .0), leb-true k 1000000 (p .1))
-
-pub pair-apart : (a b : ℕ) → apart (Pair a b) ≡ true → a ≡ b → ⊥
-pair-apart a b h = eqb-false a b (not-true (eqb a b) h)
 
 -- there are at most 512 rules
 pub rules-few : (rules : List Rule) → rules-fit rules ≡ true → length rules ≤ 512

@@ -1,8 +1,8 @@
 -- Text added behind text, and the rows of a table. Assumes nothing.
 use mathlib.Core.Path.{_≡_, refl, sym, ap, subst, _∙_}
-use mathlib.Core.Bool.{true, false, cond}
+use mathlib.Core.Bool.{true, false}
 use mathlib.Core.List.{List, [], _∷_, _++_, append-assoc, append-nil}
-use mathlib.Core.Logic.{_⊎_, inl, inr, ⊎-elim}
+use mathlib.Core.Logic.{_⊎_, ⊎-elim}
 use Prim.Native.Nat.{ℕ, suc, min, _+_, _<_, _≤_}
 use native.Mathlib.Omega.{arith}
 use lib.Chars.{codes}
@@ -22,7 +22,7 @@ use Rattle.text.specs.Names.{variable-name}
 use Rattle.text.specs.Pieces.{Bytes}
 use Rattle.witness.specs.Answers.{as-text, fill-answer, filled, length-answer}
 use Rattle.witness.specs.declared.refusals.WitnessRefusal.{WitnessRefusal}
-use Rattle.witness.specs.declared.refusals.WitnessRefusal.the-variants.{Absent, PastWord}
+use Rattle.witness.specs.declared.refusals.WitnessRefusal.the-variants.{PastWord}
 use Rattle.readout.specs.Rows.{beginning, row, rows, shown}
 use Rattle.readout.specs.Stretches.{added, unadded}
 
@@ -45,10 +45,6 @@ pub row-told : (x : ℕ) (o : Option Word) (n : ℕ) → Ok n ≡ length-answer 
 row-told x o n e =
     let t = length-told o n e in
     ap (row x) (t .1) ∙ ap (λ k. variable-name x ++ (codes " " ++ (decimal k ++ (codes " " ++ (beginning (t .0) ++ codes "\n"))))) (sym (t .2)) ∙ ap (λ p. variable-name x ++ (codes " " ++ (decimal n ++ (codes " " ++ (shown p ++ codes "\n"))))) (sym (t .1))
-
-pub row-none : (x : ℕ) (o : Option Word) (e : WitnessRefusal) → Err e ≡ length-answer o → row x o ≡ []
-row-none x None e is = refl
-row-none x (Some w) e is = absurd (let z : _≡_ {A = ℕ} 0 1 = cc in omega arith)
 
 take-min : (k : ℕ) (w : Word) → take (min (length w) k) w ≡ take k w
 take-min k w =

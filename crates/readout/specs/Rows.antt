@@ -1,6 +1,6 @@
 -- The table of a listing's words. Assumes nothing.
 use mathlib.Core.Bool.{cond}
-use mathlib.Core.List.{List, [], _∷_, _++_}
+use mathlib.Core.List.{[], _∷_, _++_}
 use Prim.Native.Nat.{ℕ, zero, suc}
 use lib.Chars.{codes}
 use lib.Dec.{ltb}

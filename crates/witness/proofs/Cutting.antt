@@ -1,47 +1,27 @@
 -- Letters that seats cut into words: what fits, one more rule, word or letter, and the word of a variable. Assumes nothing.
 use mathlib.Core.Path.{_≡_, refl, sym, ap, ap₂, subst, _∙_}
-use mathlib.Core.Bool.{Bool, true, false, cond, _&&_}
+use mathlib.Core.Bool.{true, false, cond}
 use mathlib.Core.List.{List, [], _∷_, _++_, reverse}
 use mathlib.Core.Logic.{⊎-elim}
 use Prim.Native.Nat.{ℕ, suc, _+_, _-_, _<_, _≤_}
 use native.Mathlib.Omega.{arith}
-use lib.Dec.{leb, ltb, eqb, lit≤}
-use lib.ListN.{length, getD, take, drop, length-append}
+use lib.Dec.{leb, eqb, lit≤}
+use lib.ListN.{length, getD, take, drop}
 use lib.Seq.{drop-append-le, take-append-le}
 use Rattle.std.specs.declared.option.Option.{Option}
-use Rattle.std.specs.declared.option.Option.the-variants.{Some, None}
-use Rattle.std.proofs.shelf.Lists.{getD-default, take-all, take-more, take-take, drop-all, length-take-le, length-drop, length-push, reverse-append}
-use Rattle.std.proofs.shelf.Tests.{and-parts, and-from, leb-true, ltb-true, eqb-true, lt-ltb, le-leb, cond-true, cond-false, cases-bool}
+use Rattle.std.specs.declared.option.Option.the-variants.{Some}
+use Rattle.std.proofs.shelf.Lists.{getD-default, take-all, take-more, take-take, drop-all, length-take-le, length-drop, length-push}
+use Rattle.std.proofs.shelf.Tests.{and-parts, and-from, leb-true, eqb-true, le-leb, cond-true, cond-false, cases-bool}
 use Rattle.model.specs.declared.Rule.{Rule}
 use Rattle.model.specs.Spelling.{Word, known}
 use Rattle.model.specs.Witnesses.{Entry, all-below, entries-fit, entry-fits, least, letters-in, word-of}
+use Rattle.model.proofs.Entries.{Entry-after, entry-after, from-after, below-more, below-push}
 use Rattle.model.proofs.Fitting.{newest-reverse}
 use Rattle.witness.specs.Answers.{lengthened}
 use Rattle.witness.specs.Seats.{entries, tight}
 use Rattle.witness.specs.declared.seats.Seat.{Seat}
-use Rattle.witness.proofs.Finding.{all-below-more}
 
--- what an entry that fits is
-pub record Entry-after (rules : List Rule) (older : List Entry) (x : ℕ) (w : Word) : Type 0 where
-  pub rises : least older ≤ x
-  pub named : x < 26
-  pub known-letters : all-below (known rules) w ≡ true
-  pub few : length w + letters-in older ≤ 1024
-
-pub entry-after : (rules : List Rule) (older : List Entry) (e : Entry) → entry-fits rules older e ≡ true → Entry-after rules older (e .variable) (e .word)
-entry-after rules older e h =
-    let p = and-parts (leb (least older) (e .variable) && ltb (e .variable) 26) (all-below (known rules) (e .word) && leb (length (e .word) + letters-in older) 1024) h in
-    let v = and-parts (leb (least older) (e .variable)) (ltb (e .variable) 26) (p .0) in
-    let w = and-parts (all-below (known rules) (e .word)) (leb (length (e .word) + letters-in older) 1024) (p .1) in
-    record { rises = leb-true _ _ (v .0); named = ltb-true _ _ (v .1); known-letters = w .0; few = leb-true _ _ (w .1) }
-
-pub from-after : (rules : List Rule) (older : List Entry) (x : ℕ) (w : Word) → Entry-after rules older x w → entry-fits rules older (record { variable = x; word = w }) ≡ true
-from-after rules older x w f =
-    and-from (leb (least older) x && ltb x 26) (all-below (known rules) w && leb (length w + letters-in older) 1024)
-    (and-from (leb (least older) x) (ltb x 26) (le-leb _ _ (f .rises)) (lt-ltb _ _ (f .named)))
-    (and-from (all-below (known rules) w) (leb (length w + letters-in older) 1024) (f .known-letters) (le-leb _ _ (f .few)))
-
-newest-entry : (rules : List Rule) (e : Entry) (older : List Entry) → entries-fit rules (e ∷ older) ≡ true → Entry-after rules older (e .variable) (e .word) × (entries-fit rules older ≡ true)
+newest-entry : (rules : List Rule) (e : Entry) (older : List Entry) → entries-fit rules (e ∷ older) ≡ true → Entry-after rules older e × (entries-fit rules older ≡ true)
 newest-entry rules e older h = let p = and-parts (entry-fits rules older e) (entries-fit rules older) h in (entry-after rules older e (p .0), p .1)
 
 pub entries-few : (rules : List Rule) (es : List Entry) → entries-fit rules es ≡ true → letters-in es ≤ 1024
@@ -78,7 +58,7 @@ entries-fit-more rule rules (e ∷ older) h =
     let p = newest-entry rules e older h in
     let f = p .0 in
     and-from (entry-fits (rule ∷ rules) older e) (entries-fit (rule ∷ rules) older)
-    (from-after (rule ∷ rules) older (e .variable) (e .word) (record { rises = f .rises; named = f .named; known-letters = all-below-more (known rules) (known (rule ∷ rules)) (e .word) (omega arith) (f .known-letters); few = f .few }))
+    (from-after (rule ∷ rules) older e (record { rises = f .rises; named = f .named; low = below-more (known rules) (known (rule ∷ rules)) (e .word) (omega arith) (f .low); few = f .few }))
     (entries-fit-more rule rules older (p .1))
 
 -- one word more
@@ -91,7 +71,7 @@ start-entry seats letters x seat is at =
 pub start-fits : (rules : List Rule) (es : List Entry) (x : ℕ) → least es ≤ x → x < 26 → entries-fit rules es ≡ true → entries-fit rules (record { variable = x; word = [] } ∷ es) ≡ true
 start-fits rules es x up named fit =
     and-from (entry-fits rules es (record { variable = x; word = [] })) (entries-fit rules es)
-    (from-after rules es x [] (record { rises = up; named = named; known-letters = refl; few = omega (arith, entries-few rules es fit) }))
+    (from-after rules es (record { variable = x; word = [] }) (record { rises = up; named = named; low = refl; few = omega (arith, entries-few rules es fit) }))
     fit
 
 pub start-tight : (n : ℕ) (seats : List Seat) (seat : Seat) → seat .start ≡ n → tight n seats ≡ true → tight n (seat ∷ seats) ≡ true
@@ -111,17 +91,13 @@ push-tight (seat ∷ older) n m some le h =
     let low : seat .start ≤ n = leb-true (seat .start) n (p .0) in
     and-from (leb (seat .start) m) (tight (seat .start) older) (le-leb (seat .start) m (omega arith)) (p .1)
 
-below-push : (n : ℕ) (w : Word) (a : ℕ) → all-below n w ≡ true → a < n → all-below n (w ++ (a ∷ [])) ≡ true
-below-push n [] a h lt = and-from (ltb a n) true (lt-ltb a n lt) refl
-below-push n (b ∷ w) a h lt = let p = and-parts (ltb b n) (all-below n w) h in and-from (ltb b n) (all-below n (w ++ (a ∷ []))) (p .0) (below-push n w a (p .1) lt)
-
 pub push-fits : (rules : List Rule) (es : List Entry) (a : ℕ) → a < known rules → letters-in es < 1024 → entries-fit rules es ≡ true → entries-fit rules (lengthened a es) ≡ true
 push-fits rules [] a low few h = refl
 push-fits rules (e ∷ older) a low few h =
     let p = newest-entry rules e older h in
     let f = p .0 in
     and-from (entry-fits rules older (record { variable = e .variable; word = e .word ++ (a ∷ []) })) (entries-fit rules older)
-    (from-after rules older (e .variable) (e .word ++ (a ∷ [])) (record { rises = f .rises; named = f .named; known-letters = below-push (known rules) (e .word) a (f .known-letters) low; few = omega (arith, length-push (e .word) a) }))
+    (from-after rules older (record { variable = e .variable; word = e .word ++ (a ∷ []) }) (record { rises = f .rises; named = f .named; low = below-push (known rules) (e .word) a (f .low) low; few = omega (arith, length-push (e .word) a) }))
     (p .1)
 
 -- the word of a variable keeps what its entry keeps
@@ -134,7 +110,7 @@ word-fits rules (e ∷ older) x w h is =
     (λ (t : eqb x (e .variable) ≡ true).
     let found : _≡_ {A = Option Word} (Some (e .word)) (Some w) = sym (cond-true (eqb x (e .variable)) (Some (e .word)) (word-of older x) t) ∙ is in
     let same : e .word ≡ w = cc in
-    (ap (all-below (known rules)) (sym same) ∙ f .known-letters, omega (arith, f .few, ap length same)))
+    (ap (all-below (known rules)) (sym same) ∙ f .low, omega (arith, f .few, ap length same)))
     (λ (t : eqb x (e .variable) ≡ false). word-fits rules older x w (p .1) (sym (cond-false (eqb x (e .variable)) (Some (e .word)) (word-of older x) t) ∙ is))
     (cases-bool (eqb x (e .variable)))
 

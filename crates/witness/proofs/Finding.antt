@@ -1,38 +1,33 @@
 -- Letters in a row: where a place is found, and what a rule puts in a row. Assumes nothing.
-use mathlib.Core.Path.{_≡_, refl, sym, ap, ap₂, subst, _∙_}
-use mathlib.Core.Bool.{Bool, true, false, _&&_}
-use mathlib.Core.List.{List, [], _∷_, _++_, append-nil, append-assoc, map}
-use mathlib.Core.Logic.{_⊎_, inl, inr, ⊎-elim}
+use mathlib.Core.Path.{_≡_, refl, sym, ap, _∙_}
+use mathlib.Core.Bool.{true, _&&_}
+use mathlib.Core.List.{List, [], _∷_, _++_, append-nil}
+use mathlib.Core.Logic.{_⊎_, ⊎-elim}
 use Prim.Native.Nat.{ℕ, zero, suc, max, _+_, _-_, _*_, _/_, _%_, _<_, _≤_}
 use native.Mathlib.Nat.{suc-mul, zero-mul, mod-lt, div-add-mod', div-le-of-le-mul, div-le-self, mul-comm}
 use native.Mathlib.Omega.{arith}
 use lib.Dec.{ltb}
-use lib.ListN.{length, getD, take, drop, replicate, length-append}
-use lib.Seq.{drop-append-add, drop-append-le}
-use Rattle.std.specs.Joined.{joined}
+use lib.ListN.{length, getD, take, drop, replicate}
+use lib.Seq.{drop-append-add}
 use Rattle.std.specs.Options.{valueOr}
 use Rattle.std.specs.declared.option.Option.{Option}
 use Rattle.std.specs.declared.option.Option.the-variants.{Some, None}
-use Rattle.std.proofs.shelf.Lists.{drop-more, drop-all, getD-drop, getD-append-left, getD-replicate, length-replicate, length-drop, length-take, take-all, take-append-le, nil-from-length}
+use Rattle.std.proofs.shelf.Lists.{drop-more, drop-all, getD-drop, getD-append-left, getD-replicate, length-replicate, length-drop}
 use Rattle.std.proofs.shelf.Tests.{and-parts, and-from, ltb-true, lt-ltb, le-ltb, cond-false, cases-lt}
 use Rattle.letters.specs.Holding.{length-of}
 use Rattle.letters.proofs.Judging.{length-known}
 use Rattle.model.specs.declared.Rule.{Rule}
 use Rattle.model.specs.declared.Rule.the-variants.{Pair, Block}
 use Rattle.model.specs.Spelling.{Word, copies, known, expand, spell, spell-word, rule-of}
-use Rattle.model.specs.Witnesses.{lower, counted, rules-fit, all-below}
+use Rattle.model.specs.Witnesses.{lower, rules-fit, all-below}
 use Rattle.model.proofs.Spelling.{length-copies}
-use Rattle.model.proofs.Fitting.{Made-by, made-by, pair-lower, block-lower, spell-some}
+use Rattle.model.proofs.Entries.{below-at, below-more}
+use Rattle.model.proofs.Fitting.{made-by, pair-lower, block-lower, spell-some}
 use Rattle.witness.specs.Rows.{parts, Found}
 
 -- the length of a known letter, with any default
 pub length-read : (rules : List Rule) (a d : ℕ) (o : Option ℕ) (n : ℕ) → a < known rules → o ≡ length-of rules a → n ≡ valueOr o d → n ≡ length (spell rules a)
 length-read rules a d o n lt found is = is ∙ ap (λ x. valueOr x d) (found ∙ length-known rules a lt)
-
-pub below-at : (n : ℕ) (w : Word) (i : ℕ) → all-below n w ≡ true → i < length w → getD w i 0 < n
-below-at n [] i h lt = absurd (omega arith)
-below-at n (a ∷ w) zero h lt = ltb-true a n (and-parts (ltb a n) (all-below n w) h .0)
-below-at n (a ∷ w) (suc i) h lt = below-at n w i (and-parts (ltb a n) (all-below n w) h .1) (omega arith)
 
 -- a number above each letter
 abbrev pub highest : Word → ℕ
@@ -81,13 +76,6 @@ highest-below n (a ∷ w) h =
     let tail : highest w ≤ n = highest-below n w (p .1) in
     omega arith
 
-pub all-below-more : (m n : ℕ) (w : Word) → m ≤ n → all-below m w ≡ true → all-below n w ≡ true
-all-below-more m n [] le h = refl
-all-below-more m n (a ∷ w) le h =
-    let p = and-parts (ltb a m) (all-below m w) h in
-    let head : a < m = ltb-true a m (p .0) in
-    and-from (ltb a n) (all-below n w) (lt-ltb a n (omega arith)) (all-below-more m n w le (p .1))
-
 -- the row that stands for a made letter
 pub record Row-of (rules : List Rule) (c : ℕ) (w : Word) : Type 0 where
   pub known-letters : all-below (known rules) w ≡ true
@@ -99,7 +87,7 @@ row-of rules c rule fit is =
     let m = made-by rules c rule fit is in
     let under : c < known rules = m .under in
     let low = below-parts c rule (m .low) in
-    record { known-letters = all-below-more c (known rules) (parts rule) (omega arith) low; spells = m .spells ∙ spell-parts rules rule; lowers = highest-below c (parts rule) low }
+    record { known-letters = below-more c (known rules) (parts rule) (omega arith) low; spells = m .spells ∙ spell-parts rules rule; lowers = highest-below c (parts rule) low }
 
 -- a place in a block: the letters before it are gone over by a division
 block-drop : (rules : List Rule) (a q r n : ℕ) → q ≤ n → drop (q * length (spell rules a) + r) (spell-word rules (replicate n a)) ≡ drop r (spell-word rules (drop q (replicate n a)))

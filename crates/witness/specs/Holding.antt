@@ -1,5 +1,5 @@
 -- What a witness holds. Assumes nothing.
-use mathlib.Core.List.{List, [], reverse}
+use mathlib.Core.List.{[], reverse}
 use Rattle.std.specs.Of.Vec.{vec-items}
 use Rattle.letters.specs.Holding.{rules-of}
 use Rattle.model.specs.Witnesses.{Contents}

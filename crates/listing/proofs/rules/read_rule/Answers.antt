@@ -15,7 +15,7 @@ returns-in-rest c = no-line (contents-of (c .args .witness .now)) (c .args .line
 pub returns-then-from-rules : need.returns-then-from-rules
 returns-then-from-rules c =
     other-letter (contents-of (c .args .witness .now)) (c .args .line .now) (c .in-Some .made, c .in-Some .rule) (c .in-Some .ensures tt)
-    (λ is. c .if-from-rules .taken (omega (arith, c .from .ensures, is, length-reverse (c .rules .result .now), ap length (c .rules .ensures))))
+    (λ is. omega (arith, c .if-from-rules .taken, c .from .ensures, is, length-reverse (c .rules .result .now), ap length (c .rules .ensures)))
 
 pub returns : need.returns
 returns c =

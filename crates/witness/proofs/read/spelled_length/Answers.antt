@@ -1,6 +1,5 @@
 use mathlib.Core.Path.{_≡_, sym, ap, ap₂, _∙_}
-use Prim.Native.Nat.{_+_, _*_, _^_, _≤_, _<_}
-use native.Mathlib.Nat.{mul-le-mul-right}
+use Prim.Native.Nat.{_+_, _<_}
 use native.Mathlib.Omega.{arith}
 use lib.ListN.{length, getD, take}
 use Rattle.std.proofs.shelf.Lists.{length-take-le, take-all, take-more}
@@ -8,7 +7,8 @@ use Rattle.letters.specs.Holding.{rules-of}
 use Rattle.model.specs.Spelling.{known, spell, spell-word}
 use Rattle.model.proofs.Spelling.{length-spell-push}
 use Rattle.model.proofs.Fitting.{spell-short, spell-word-short}
-use Rattle.witness.proofs.Finding.{below-at, length-read}
+use Rattle.model.proofs.Entries.{below-at}
+use Rattle.witness.proofs.Finding.{length-read}
 use Rattle.witness.proofs.read.spelled_length.Needs as need
 
 here : (c : need.After-unwrap-or-total) → c .unwrap-or-total .result ≡ length (spell (rules-of (c .args .letters .now)) (getD (c .args .word .now) (c .loop-letter .letter-index) 0))

@@ -9,7 +9,7 @@ use Rattle.model.specs.Buffers.{Put}
 use Rattle.model.specs.Spelling.{known, spell-word}
 use Rattle.witness.specs.Answers.{as-text}
 use Rattle.witness.proofs.Filling.{filling-start, filling-more, filling-end}
-use Rattle.witness.proofs.Finding.{below-at}
+use Rattle.model.proofs.Entries.{below-at}
 use Rattle.witness.proofs.spelling.fill_word.Needs as need
 
 pub loop-i-holds : need.loop-i-holds

@@ -3,7 +3,8 @@ use Prim.Native.Nat.{_<_}
 use lib.ListN.{length}
 use Rattle.letters.specs.Holding.{rules-of}
 use Rattle.model.specs.Spelling.{known}
-use Rattle.witness.proofs.Finding.{below-at, found-inside, found-letter}
+use Rattle.model.proofs.Entries.{below-at}
+use Rattle.witness.proofs.Finding.{found-inside, found-letter}
 use Rattle.witness.proofs.spelling.letter_in.Needs as need
 
 pub index-word-spot : need.index-word-spot

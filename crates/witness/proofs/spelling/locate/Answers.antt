@@ -1,17 +1,12 @@
-use mathlib.Core.Path.{_≡_, sym, ap, subst, _∙_}
+use mathlib.Core.Path.{_≡_, sym, subst}
 use mathlib.Core.Bool.{true}
-use Prim.Native.Nat.{_/_, _%_, _<_, _≤_}
-use native.Mathlib.Omega.{arith}
-use lib.Dec.{lit<}
+use Prim.Native.Nat.{_/_, _%_, _≤_}
 use lib.ListN.{length}
-use Rattle.std.specs.Options.{valueOr}
-use Rattle.std.specs.declared.option.Option.the-variants.{Some}
-use Rattle.letters.specs.Holding.{rules-of, length-of}
-use Rattle.model.specs.Spelling.{known, spell, spell-word}
+use Rattle.letters.specs.Holding.{rules-of}
+use Rattle.model.specs.Spelling.{known, spell-word}
 use Rattle.model.specs.Witnesses.{all-below}
-use Rattle.model.proofs.Fitting.{spell-some}
 use Rattle.witness.specs.Rows.{parts, Found}
-use Rattle.witness.proofs.Finding.{some-length, block-read, block-found}
+use Rattle.witness.proofs.Finding.{some-length, block-read}
 use Rattle.witness.proofs.spelling.locate.Needs as need
 
 pub div-result : need.div-result

@@ -4,7 +4,8 @@ use native.Mathlib.Omega.{arith}
 use lib.ListN.{length, getD, drop}
 use Rattle.letters.specs.Holding.{rules-of}
 use Rattle.model.specs.Spelling.{known, spell, spell-word}
-use Rattle.witness.proofs.Finding.{below-at, length-read, past-letter}
+use Rattle.model.proofs.Entries.{below-at}
+use Rattle.witness.proofs.Finding.{length-read, past-letter}
 use Rattle.witness.proofs.spelling.scan.Needs as need
 
 pub loop-index-again : need.loop-index-again

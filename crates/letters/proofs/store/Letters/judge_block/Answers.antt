@@ -1,8 +1,8 @@
-use mathlib.Core.Path.{_≡_, refl, sym, ap₂, _∙_}
+use mathlib.Core.Path.{refl, sym, ap₂, _∙_}
 use Prim.Native.Nat.{_*_, _≤_}
 use native.Mathlib.Nat.{mul-le-mul}
 use native.Mathlib.Omega.{arith}
-use lib.Dec.{ltb, leb}
+use lib.Dec.{leb}
 use Rattle.std.proofs.shelf.Tests.{and-from, lt-ltb, le-leb}
 use Rattle.model.specs.declared.Rule.the-variants.{Block}
 use Rattle.model.specs.Spelling.{known, spell}

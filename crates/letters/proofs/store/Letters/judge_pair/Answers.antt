@@ -1,8 +1,8 @@
-use mathlib.Core.Path.{_≡_, refl, sym, ap₂, _∙_}
+use mathlib.Core.Path.{refl, sym, ap₂, _∙_}
 use Prim.Native.Nat.{_+_}
 use native.Mathlib.Omega.{arith}
 use lib.Dec.{ltb, eqb}
-use lib.ListN.{length, length-append}
+use lib.ListN.{length-append}
 use Rattle.std.proofs.shelf.Tests.{and-from, lt-ltb, ne-eqb, not-from-false}
 use Rattle.model.specs.declared.Rule.the-variants.{Pair}
 use Rattle.model.specs.Spelling.{known, spell}

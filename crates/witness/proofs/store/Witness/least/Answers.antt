@@ -1,10 +1,9 @@
-use mathlib.Core.Path.{_≡_, sym, ap, subst, _∙_}
-use mathlib.Core.List.{List, [], reverse}
-use Prim.Native.Nat.{_-_, _<_, _≤_}
+use mathlib.Core.Path.{_≡_, sym, ap, subst}
+use mathlib.Core.List.{List, reverse}
+use Prim.Native.Nat.{_-_, _<_}
 use native.Mathlib.Omega.{arith}
 use lib.ListN.{length, getD}
 use Rattle.std.proofs.shelf.Lists.{nil-from-length}
-use Rattle.std.proofs.shelf.Tests.{ltb-true, ltb-false}
 use Rattle.letters.specs.Holding.{rules-of}
 use Rattle.model.specs.Witnesses.{least}
 use Rattle.witness.specs.Seats.{entries}

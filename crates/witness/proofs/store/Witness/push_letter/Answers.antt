@@ -1,6 +1,6 @@
 use mathlib.Core.Path.{_≡_, refl, sym, ap, _∙_}
 use mathlib.Core.Bool.{true, false}
-use mathlib.Core.List.{_∷_, reverse}
+use mathlib.Core.List.{reverse}
 use Prim.Native.Nat.{_<_, _≤_}
 use native.Mathlib.Omega.{arith}
 use lib.Dec.{leb}
@@ -9,8 +9,8 @@ use Rattle.std.proofs.shelf.Lists.{length-reverse, length-push}
 use Rattle.std.proofs.shelf.Tests.{le-leb, lt-leb, eqb-true, eqb-false}
 use Rattle.letters.specs.Holding.{rules-of}
 use Rattle.model.specs.Spelling.{known}
-use Rattle.model.specs.Witnesses.{Contents, entries-fit, letters-in}
-use Rattle.witness.specs.Seats.{entries, tight}
+use Rattle.model.specs.Witnesses.{entries-fit, letters-in}
+use Rattle.witness.specs.Seats.{entries}
 use Rattle.witness.proofs.Cutting.{count-entries, letters-in-entries, push-entry, push-fits, push-tight}
 use Rattle.witness.proofs.store.Witness.push_letter.Needs as need
 

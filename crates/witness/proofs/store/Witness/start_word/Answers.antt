@@ -8,7 +8,7 @@ use lib.ListN.{length}
 use Rattle.std.proofs.shelf.Lists.{length-reverse}
 use Rattle.std.proofs.shelf.Tests.{lt-leb, le-ltb}
 use Rattle.letters.specs.Holding.{rules-of}
-use Rattle.model.specs.Witnesses.{Contents, Entry, entries-fit, least}
+use Rattle.model.specs.Witnesses.{entries-fit, least}
 use Rattle.model.proofs.Fitting.{newest-reverse}
 use Rattle.witness.specs.Seats.{entries, tight}
 use Rattle.witness.specs.declared.seats.Seat.{Seat}
