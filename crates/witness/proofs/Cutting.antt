@@ -2,19 +2,17 @@
 use mathlib.Core.Path.{_≡_, refl, sym, ap, ap₂, subst, _∙_}
 use mathlib.Core.Bool.{true, false, cond}
 use mathlib.Core.List.{List, [], _∷_, _++_, reverse}
-use mathlib.Core.Logic.{⊎-elim}
 use Prim.Native.Nat.{ℕ, suc, _+_, _-_, _<_, _≤_}
 use native.Mathlib.Omega.{arith}
 use lib.Dec.{leb, eqb, lit≤}
 use lib.ListN.{length, getD, take, drop}
 use lib.Seq.{drop-append-le, take-append-le}
-use Rattle.std.specs.declared.option.Option.{Option}
 use Rattle.std.specs.declared.option.Option.the-variants.{Some}
 use Rattle.std.proofs.shelf.Lists.{getD-default, take-all, take-more, take-take, drop-all, length-take-le, length-drop, length-push}
-use Rattle.std.proofs.shelf.Tests.{and-parts, and-from, leb-true, eqb-true, le-leb, cond-true, cond-false, cases-bool}
+use Rattle.std.proofs.shelf.Tests.{and-parts, and-from, leb-true, eqb-true, le-leb, cond-true, cond-false}
 use Rattle.model.specs.declared.Rule.{Rule}
 use Rattle.model.specs.Spelling.{Word, known}
-use Rattle.model.specs.Witnesses.{Entry, all-below, entries-fit, entry-fits, least, letters-in, word-of}
+use Rattle.model.specs.Witnesses.{Entry, entries-fit, entry-fits, least, letters-in, word-of}
 use Rattle.model.proofs.Entries.{Entry-after, entry-after, from-after, below-more, below-push}
 use Rattle.model.proofs.Fitting.{newest-reverse}
 use Rattle.witness.specs.Answers.{lengthened}
@@ -99,20 +97,6 @@ push-fits rules (e ∷ older) a low few h =
     and-from (entry-fits rules older (record { variable = e .variable; word = e .word ++ (a ∷ []) })) (entries-fit rules older)
     (from-after rules older (record { variable = e .variable; word = e .word ++ (a ∷ []) }) (record { rises = f .rises; named = f .named; low = below-push (known rules) (e .word) a (f .low) low; few = omega (arith, length-push (e .word) a) }))
     (p .1)
-
--- the word of a variable keeps what its entry keeps
-pub word-fits : (rules : List Rule) (es : List Entry) (x : ℕ) (w : Word) → entries-fit rules es ≡ true → word-of es x ≡ Some w → (all-below (known rules) w ≡ true) × (length w ≤ 1024)
-word-fits rules [] x w h is = absurd (let z : _≡_ {A = ℕ} 0 1 = cc in omega arith)
-word-fits rules (e ∷ older) x w h is =
-    let p = newest-entry rules e older h in
-    let f = p .0 in
-    ⊎-elim
-    (λ (t : eqb x (e .variable) ≡ true).
-    let found : _≡_ {A = Option Word} (Some (e .word)) (Some w) = sym (cond-true (eqb x (e .variable)) (Some (e .word)) (word-of older x) t) ∙ is in
-    let same : e .word ≡ w = cc in
-    (ap (all-below (known rules)) (sym same) ∙ f .low, omega (arith, f .few, ap length same)))
-    (λ (t : eqb x (e .variable) ≡ false). word-fits rules older x w (p .1) (sym (cond-false (eqb x (e .variable)) (Some (e .word)) (word-of older x) t) ∙ is))
-    (cases-bool (eqb x (e .variable)))
 
 -- seats gone through from the newest: those before i are left, with the letters before `end`
 pub record Before (seats : List Seat) (letters : Word) (x i end : ℕ) : Type 0 where

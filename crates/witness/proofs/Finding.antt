@@ -43,7 +43,7 @@ under-highest (a ∷ w) (suc i) lt = let h : getD w i 0 < highest w = under-high
 pub spell-from : (rules : List Rule) (w : Word) (i : ℕ) → i < length w → spell-word rules (drop i w) ≡ spell rules (getD w i 0) ++ spell-word rules (drop (i + 1) w)
 spell-from rules w i lt = ap (spell-word rules) (drop-more w i 0 lt)
 
-drop-past : {X : Type 0} (k : ℕ) (u v : List X) → length u ≤ k → drop k (u ++ v) ≡ drop (k - length u) v
+pub drop-past : {X : Type 0} (k : ℕ) (u v : List X) → length u ≤ k → drop k (u ++ v) ≡ drop (k - length u) v
 drop-past k u v le = let is : length u + (k - length u) ≡ k = omega arith in sym (ap (λ n. drop n (u ++ v)) is) ∙ drop-append-add u v (k - length u)
 
 -- the place lies past the letter at i

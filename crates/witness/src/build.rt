@@ -29,10 +29,12 @@ impl Witness {
     {
         let made = Letters::new(heap)?;
         let letters = Vec::with_capacity(heap, MOST_LETTERS)?;
+        let ends = Vec::with_capacity(heap, MOST_LETTERS)?;
         let seats = Vec::with_capacity(heap, VARIABLES as usize)?;
         Ok(Witness {
             made,
             letters,
+            ends,
             seats,
         })
     }
@@ -43,6 +45,7 @@ impl Witness {
     {
         self.seats.clear();
         self.letters.clear();
+        self.ends.clear();
         self.made.clear();
     }
 
@@ -97,7 +100,9 @@ impl Witness {
         if self.letters.len() >= MOST_LETTERS {
             return Err(LetterRefusal::TooManyLetters);
         }
+        let total = self.upto(self.letters.len()) + self.made.length(letter).unwrap_or(0);
         self.letters.push_reserved(letter);
+        self.ends.push_reserved(total);
         Ok(())
     }
 }

@@ -77,7 +77,7 @@ fn locate(letters: &Letters, rule: Rule, place: u64) -> Spot
 }
 
 // The letter of a to z at a place of what a letter spells.
-fn letter_at(letters: &Letters, letter: u16, place: u64) -> u8
+pub(crate) fn letter_at(letters: &Letters, letter: u16, place: u64) -> u8
     requires known { ⌜ letter < known (rules-of (now letters)) ⌝ }
     requires within { ⌜ place < length (spell (rules-of (now letters)) letter) ⌝ }
     ensures { λ r. ⌜ r ≡ getD (spell (rules-of (now (letters .entry))) letter) place 0 ⌝ }
@@ -89,16 +89,6 @@ fn letter_at(letters: &Letters, letter: u16, place: u64) -> u8
         }
         None => letter as u8,
     }
-}
-
-// The letter of a to z at a place of what a word spells.
-pub(crate) fn letter_in(letters: &Letters, word: &[u16], place: u64) -> u8
-    requires known { ⌜ all-below (known (rules-of (now letters))) (now word) ≡ true ⌝ }
-    requires within { ⌜ place < length (spell-word (rules-of (now letters)) (now word)) ⌝ }
-    ensures { λ r. ⌜ r ≡ getD (spell-word (rules-of (now (letters .entry))) (now (word .entry))) place 0 ⌝ }
-{
-    let spot = scan(letters, word, place);
-    letter_at(letters, word[spot.index], spot.skip)
 }
 
 // Writes what a letter spells, from the place `start` on, into `out` from `at` on, as far as both go, and answers the place behind it.
@@ -130,12 +120,18 @@ fn fill_letter(letters: &Letters, letter: u16, start: u64, out: &mut [u8], at: u
     }
 }
 
-// Writes what a word spells, from the place `start` on, as far as it and `out` go, and answers how much that is.
-pub(crate) fn fill_word(letters: &Letters, word: &[u16], start: u64, out: &mut [u8]) -> usize
+// Writes what a word spells, from the place `start` on, which is at `spot`, as far as it and `out` go, and answers how much that is.
+pub(crate) fn fill_word(
+    letters: &Letters,
+    word: &[u16],
+    start: u64,
+    spot: Spot,
+    out: &mut [u8],
+) -> usize
     requires known { ⌜ all-below (known (rules-of (now letters))) (now word) ≡ true ⌝ }
+    requires at { ⌜ Found (rules-of (now letters)) (now word) start (spot .index) (spot .skip) ⌝ }
     ensures { λ r. ⌜ Put (now (out .entry)) 0 (as-text (take (length (now (out .entry))) (drop start (spell-word (rules-of (now (letters .entry))) (now (word .entry)))))) (now (out .exit)) r ⌝ }
 {
-    let spot = scan(letters, word, start);
     let mut i = spot.index;
     let mut skip = spot.skip;
     let mut end = 0;

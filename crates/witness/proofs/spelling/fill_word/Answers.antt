@@ -13,7 +13,7 @@ use Rattle.model.proofs.Entries.{below-at}
 use Rattle.witness.proofs.spelling.fill_word.Needs as need
 
 pub loop-i-holds : need.loop-i-holds
-loop-i-holds c = filling-start _ _ _ _ _ _ _ (omega arith) (c .scan-spot .ensures)
+loop-i-holds c = filling-start _ _ _ _ _ _ _ (omega arith) (c .pre .at)
 
 pub fill-letter-end-requires : need.fill-letter-end-requires
 fill-letter-end-requires c κs =

@@ -35,10 +35,19 @@ ghost-self c =
     let named : x < 26 = omega arith in (
       s .room,
       (
-        omega (arith, c .push-reserved .ensures .capacity, s .beside),
+        s .level,
         (
-          ap (tight (length letters)) newest ∙ start-tight (length letters) seats seat at (s .whole),
-          (ap (λ l. entries-fit (rules-of (s .made)) (entries l letters)) newest ∙ ap (entries-fit (rules-of (s .made))) (start-entry seats letters x seat refl at) ∙ start-fits (rules-of (s .made)) es x up named (s .fit), tt),
+          s .along,
+          (
+            omega (arith, c .push-reserved .ensures .capacity, s .beside),
+            (
+              ap (tight (length letters)) newest ∙ start-tight (length letters) seats seat at (s .whole),
+              (
+                ap (λ l. entries-fit (rules-of (s .made)) (entries l letters)) newest ∙ ap (entries-fit (rules-of (s .made))) (start-entry seats letters x seat refl at) ∙ start-fits (rules-of (s .made)) es x up named (s .fit),
+                (s .counted, tt),
+              ),
+            ),
+          ),
         ),
       ),
     )
