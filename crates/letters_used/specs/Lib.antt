@@ -1,0 +1,2 @@
+pub mod LetterSets
+pub mod Theorems
