@@ -1,0 +1,5 @@
+pub mod Examples
+pub mod Judging
+pub mod Tables
+pub mod Whole
+pub mod Witnesses

@@ -1,0 +1,14 @@
+pub mod Counting
+pub mod Examples
+pub mod Falls
+pub mod Filled
+pub mod Final
+pub mod Lengths
+pub mod Limited
+pub mod Lists
+pub mod Parts
+pub mod Refusing
+pub mod Rounds
+pub mod Shares
+pub mod Turns
+pub mod Uncrossing

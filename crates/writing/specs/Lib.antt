@@ -1,0 +1,5 @@
+pub mod Counts
+pub mod Refusals
+pub mod Theorems
+pub mod Worked
+pub mod Writer
