@@ -9,7 +9,7 @@ use std::alloc::Global;
 use std::test::*;
 
 // A word of so many letters a to z, in no simple order.
-pub fn mixed_word(heap: Global, count: usize) -> Result<Vec<u16>, Fail> {
+pub(crate) fn mixed_word(heap: Global, count: usize) -> Result<Vec<u16>, Fail> {
     let mut word = Vec::new(heap);
     let mut seed: u32 = 7;
     for _ in 0..count {
@@ -20,7 +20,11 @@ pub fn mixed_word(heap: Global, count: usize) -> Result<Vec<u16>, Fail> {
 }
 
 // A table with room for so many letters.
-pub fn table_for<K: Measure>(heap: Global, kind: &K, room: usize) -> Result<Vec<K::Value>, Fail> {
+pub(crate) fn table_for<K: Measure>(
+    heap: Global,
+    kind: &K,
+    room: usize,
+) -> Result<Vec<K::Value>, Fail> {
     let mut table = Vec::new(heap);
     for _ in 0..room {
         table.push(kind.empty())?;
@@ -29,7 +33,7 @@ pub fn table_for<K: Measure>(heap: Global, kind: &K, room: usize) -> Result<Vec<
 }
 
 // The value of what the word spells by these rules.
-pub fn value_of<K: Measure>(
+pub(crate) fn value_of<K: Measure>(
     heap: Global,
     kind: &K,
     rules: &[Rule],
@@ -41,7 +45,7 @@ pub fn value_of<K: Measure>(
 }
 
 // Whether it passes for the variable.
-pub fn passes<K: Measure>(
+pub(crate) fn passes<K: Measure>(
     heap: Global,
     kind: &K,
     word: &[u16],

@@ -1,6 +1,7 @@
 use mathlib.Core.Path.{_≡_, refl, ap, _∙_, sym}
 use mathlib.Core.Bool.{false, _||_}
 use mathlib.Core.Logic.{inl, inr}
+use mathlib.Core.List.{[], _∷_}
 use Prim.Native.Nat.{ℕ, zero, suc, _+_, _*_, _-_, _/_, _%_, _^_, _<_, max, min}
 use native.Mathlib.Omega.{arith}
 use lib.Bits.{bitOr, or-shr}
@@ -10,6 +11,7 @@ use Rattle.std.proofs.shelf.Tests.{eq-eqb, ne-eqb, cases-order}
 use Rattle.systems.specs.Values.{word-value}
 use Rattle.measure.specs.Sets.{holds}
 use Rattle.letters_used.specs.LetterSets.{only, none, union, or-digit}
+use Rattle.letters_used.specs.Theorems.{Value-is-letters-used}
 use Rattle.letters_used.proofs.kind.value_is_letters_used.Needs as need
 
 either-digit : (p q : ℕ) → p < 2 → q < 2 → eqb (max p q) 1 ≡ (eqb p 1 || eqb q 1)
