@@ -118,6 +118,13 @@ fn the_second_table(rt: LibcRuntime) -> Result<(), Fail> {
     check_eq(
         refused(
             heap,
+            b"letter make first second\n\nvariable length word\nX 1 a b\n",
+        )?,
+        4,
+    )?;
+    check_eq(
+        refused(
+            heap,
             b"letter make first second\n\nvariable length word\nX 1 a\nX 1 a\n",
         )?,
         5,
