@@ -1,0 +1,5 @@
+pub mod Ending
+pub mod Finding
+pub mod Flat
+pub mod Keeps
+pub mod Loops

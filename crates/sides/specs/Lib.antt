@@ -1,0 +1,3 @@
+pub mod Holding
+pub mod Marks
+pub mod Seeking
