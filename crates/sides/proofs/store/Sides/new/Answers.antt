@@ -9,7 +9,7 @@ pub ghost-result : need.ghost-result
 ghost-result c =
     let made = c .in-Continue-marks .ensures tt .made in (
       subst Whole (sym (made .0)) none-whole,
-      (sym (ap (λ t. length (equations-in t)) (made .0) ∙ ap length none-hold), (omega arith, (omega (arith, made .1), (made .1 .1, (c .in-Continue-spare .ensures tt .made .1 .1, tt))))),
+      (sym (ap (λ t. length (equations-in t)) (made .0) ∙ ap length none-hold), (omega arith, (omega (arith, made .1), (omega (arith, made .1 .1), (omega (arith, c .in-Continue-spare .ensures tt .made .1 .1), tt))))),
     )
 
 pub returns : need.returns
