@@ -138,7 +138,7 @@ const LONGEST: usize = 20_000;
 // Writes the listing to the front of `out`, leaves what stands behind it, and answers its length.
 pub fn print(witness: &Witness, out: &mut [u8]) -> Result<usize, PrintRefusal>
     ensures { λ r. ⌜ Cases r
-        (λ n. Put (now (out .entry)) 0 (listing (contents-of (now (witness .entry)))) (now (out .exit)) n)
+        (λ n. (20000 ≤ length (now (out .entry))) × Put (now (out .entry)) 0 (listing (contents-of (now (witness .entry)))) (now (out .exit)) n)
         (λ e. (print-number e ≡ 71) × (length (now (out .entry)) < 20000) × (now (out .exit) ≡ now (out .entry))) ⌝ }
 {
     if out.len() < LONGEST {
