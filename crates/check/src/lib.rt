@@ -1,4 +1,7 @@
 // The calls that a search drives: a system is loaded, opened, taken through choices, and closed with a witness.
+
+#![tactic(auto)]
+
 mod choosing;
 mod closing;
 mod loading;

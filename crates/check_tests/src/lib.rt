@@ -1,5 +1,7 @@
 // Tests of systems and checks, from the outside.
 
+#![tactic(auto)]
+
 #[cfg(test)]
 mod choices;
 #[cfg(test)]

@@ -1,5 +1,7 @@
 // An example: a kind of a buyer's own, run over a word with rules, alone and together with the length kind.
 
+#![tactic(auto)]
+
 mod parity;
 
 use crate::parity::EvenUses;

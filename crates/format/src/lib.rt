@@ -1,5 +1,7 @@
 // What a listing is, what reading one means, and the laws of listings.
 
+#![tactic(auto)]
+
 ghost use Rattle.format.specs.Reading.{EveryListingFits, ListingOrLine, OneContents, OneLine};
 
 // Two different contents never have the same listing.

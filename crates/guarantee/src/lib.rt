@@ -1,5 +1,7 @@
 // What a close answers, and the whole guarantee: sound, complete and writable.
 
+#![tactic(auto)]
+
 ghost use Rattle.std.specs.Prelude.{◌≡◌};
 ghost use Rattle.guarantee.specs.Closing.{close_detail, close_number};
 ghost use Rattle.guarantee.specs.Guarantee.{Guarantee};

@@ -1,4 +1,7 @@
 // A witness printed as a listing, and read from one.
+
+#![tactic(auto)]
+
 mod entries;
 mod printing;
 mod puts;

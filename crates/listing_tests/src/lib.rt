@@ -1,5 +1,7 @@
 // Tests of witnesses and their listings, from the outside.
 
+#![tactic(auto)]
+
 #[cfg(test)]
 mod full;
 #[cfg(test)]

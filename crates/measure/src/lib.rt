@@ -1,5 +1,7 @@
 // Measures: limits on words of any lawful kind. What a kind is, and what is written once for every kind.
 
+#![tactic(auto)]
+
 ghost use Rattle.std.specs.Prelude.{◌≡◌, ℕ, Bool};
 ghost use Rattle.systems.specs.Values.{Associative, Neutral};
 

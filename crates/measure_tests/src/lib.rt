@@ -1,5 +1,7 @@
 // Tests of the measures: long words against straightforward loops, and the edges of every limit.
 
+#![tactic(auto)]
+
 #[cfg(test)]
 mod edges;
 #[cfg(test)]

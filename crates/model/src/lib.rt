@@ -1,5 +1,7 @@
 // What every crate shares: the rules of made letters, what a letter spells, and what a witness holds.
 
+#![tactic(auto)]
+
 ghost use Rattle.std.specs.Prelude.{◌≡◌};
 ghost use Rattle.model.specs.Laws.{LaterRulesKeepSpelling, LengthsFollowRules, SpellingEndsInAToZ};
 ghost use Rattle.model.specs.Refusals.{rule_number};

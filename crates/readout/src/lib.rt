@@ -1,4 +1,7 @@
 // What is read out of a listing: a table of its words, or a stretch of one, as text.
+
+#![tactic(auto)]
+
 mod adding;
 mod asking;
 mod replying;

@@ -1,4 +1,7 @@
 // The sides of all equations, in memory that is reserved once, and the passes over them.
+
+#![tactic(auto)]
+
 mod ends;
 mod mark;
 mod methods;

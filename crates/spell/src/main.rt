@@ -1,4 +1,7 @@
 // Spells the words of a listing, which is read on standard input: all of them in a table, or a stretch of one.
+
+#![tactic(auto)]
+
 use anyhow::anyhow;
 use readout::{Request, reply_to, stretch_request};
 use std::env;

@@ -1,4 +1,7 @@
 // What stands, in memory that is reserved once: the sides, the rules and the pops; loading, and the five choices.
+
+#![tactic(auto)]
+
 mod methods;
 mod store;
 

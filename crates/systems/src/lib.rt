@@ -1,5 +1,7 @@
 // Systems of word equations, the five choices that act on them, and what is true of every run of loads and choices.
 
+#![tactic(auto)]
+
 ghost use Rattle.std.specs.Prelude.{◌≡◌};
 ghost use Rattle.systems.specs.Examples.{WorkedExamples};
 ghost use Rattle.systems.specs.Refusals.{choice_detail, choice_number, load_number};

@@ -1,5 +1,7 @@
 // Fields of a line, tokens that hold their part of the input, numbers and names.
 
+#![tactic(auto)]
+
 ghost use Rattle.std.specs.Prelude.{◌≡◌, ℕ, ◌^◌, ◌<◌, ◌≤◌, true, ◌∷◌, ◌++◌, length, decimal, MatchOption, ◌≢◌, slice_index};
 ghost use Rattle.text.specs.Digits.{Shaped, value_on};
 ghost use Rattle.text.specs.Names.{letter_name, variable_name};

@@ -1,4 +1,7 @@
 // A witness: the rules of made letters and the words of variables, from which the letters a to z of each word are read.
+
+#![tactic(auto)]
+
 mod build;
 mod read;
 pub mod refusals;

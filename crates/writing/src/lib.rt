@@ -1,5 +1,7 @@
 // The writer's list: for each solution one list of choices that fit, that the check takes, and that leave no variable.
 
+#![tactic(auto)]
+
 ghost use Rattle.std.specs.Prelude.{◌≡◌};
 ghost use Rattle.writing.specs.Refusals.{write_number};
 ghost use Rattle.writing.specs.Theorems.{Writable, WriterRefusesRightly};

@@ -17,9 +17,9 @@ value-of-requires c = some _ _ c.in-Number.ensures
 
 pub returns-in-Number : goal.returns-in-Number
 returns-in-Number c =
-    let r = c.value-of.result in
+    let r = c.value_of.result in
     let h = c.in-Number.ensures in
-    subst (λ ds. Reads (Below (10 ^ 16)) decimal ds r) h.0 (exact_number c.in-Number.digits.now r (some _ _ h) c.value-of.ensures)
+    subst (λ ds. Reads (Below (10 ^ 16)) decimal ds r) h.0 (exact_number c.in-Number.digits.now r (some _ _ h) c.value_of.ensures)
 
 other : (t : Token) (field : Bytes) → Holds t field → ((part : _) → t ≡ Number part → ⊥) → (n : ℕ) → n < 10 ^ 16 → field ≡ decimal n → ⊥
 other (Number part) field h none n lt e = none part refl

@@ -41,4 +41,4 @@ invariant-of-self c =
 pub returns : goal.returns
 returns c =
     let s = c.args.self.now in
-    (c.in-ok-length.ensures.0, newest s.rules.items c.push-reserved.new.self.items c.args.rule c.push-reserved.ensures.items)
+    (c.in_ok-length.ensures.0, newest s.rules.items c.push_reserved.new.self.items c.args.rule c.push_reserved.ensures.items)

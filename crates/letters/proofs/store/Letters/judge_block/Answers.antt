@@ -24,6 +24,6 @@ returns c =
     judged rules (Block a n) (c.from.result * c.in-Some.one) c.room.result
     (lt-ltb a (known rules) one.0)
     refl
-    (and_from (leb 2 n) (leb n 1000000) (le-leb 2 n c.if-count-lt-LEAST-COUNT.false) (le-leb n 1000000 c.if-count-gt-MOST-COUNT.false))
+    (and_from (leb 2 n) (leb n 1000000) (le-leb 2 n c.if-count-lt-LEAST_COUNT.false) (le-leb n 1000000 c.if-count-gt-MOST_COUNT.false))
     (ap₂ (λ x y. x * y) c.from.ensures one.1 ∙ sym (length_copies n (spell rules a)))
     c.room.ensures

@@ -22,4 +22,4 @@ returns-else-letter-lt26 c =
     let within : i < length s.rules.items = omega (arith, s.rules.ok.0, c.known.ensures.value) in
     let beside : i < length s.lengths.items = omega (arith, s.rules.ok.0, s.lengths.ok.0) in
     let here : 26 + i ≡ c.args.letter = omega arith in
-    sym (length_known (rules_of s) c.args.letter (omega (arith, c.known.ensures.value)) ∙ ap Some (ap (λ a. length (spell (rules_of s) a)) (sym here) ∙ sym (s.decreases i within) ∙ sym (get_or_read s.lengths.items i c.index.result.now beside c.index.ensures 0)))
+    sym (length_known (rules_of s) c.args.letter (omega (arith, c.known.ensures.value)) ∙ ap Some (ap (λ a. length (spell (rules_of s) a)) (sym here) ∙ sym (s.measured i within) ∙ sym (get_or_read s.lengths.items i c.index.result.now beside c.index.ensures 0)))
