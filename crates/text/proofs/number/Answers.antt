@@ -12,8 +12,8 @@ use Rattle.text.proofs.number.Goals as goal
 some : (digits field : Bytes) → (digits ≡ field) × IsInRange 48 57 (get_or field 0 0) → 0 < length digits
 some digits field h = omega (arith, digit_some field h.1, ap length h.0)
 
-pub value-of-requires : goal.value-of-requires
-value-of-requires c = some _ _ c.in-Number.ensures
+pub value_of-requires : goal.value_of-requires
+value_of-requires c = some _ _ c.in-Number.ensures
 
 pub returns-in-Number : goal.returns-in-Number
 returns-in-Number c =
@@ -29,5 +29,5 @@ other (LetterName part) field h none n lt e =
     let mark : 35 ≡ get_or field 0 0 = ap (λ l. get_or l 0 0) h in
     omega arith
 
-pub returns-in-default : goal.returns-in-default
-returns-in-default c = other c.token-of.result c.args.field.now c.token-of.ensures c.in-default.not-Number
+pub returns-in_default : goal.returns-in_default
+returns-in_default c = other c.token_of.result c.args.field.now c.token_of.ensures c.in_default.not-Number

@@ -7,8 +7,8 @@ use Rattle.check.proofs.output.add_letters.Goals as goal
 
 pub loop-letter-preserved : goal.loop-letter-preserved
 loop-letter-preserved c =
-    letter_turn (contents_of c.args.witness.now) (contents_of c.loop-letter.witness) (contents_of c.push-letter.new.self) c.args.word.now c.loop-letter.letter-index c.push-letter.result c.loop-letter-test.true
-    c.requires.started c.requires.below c.requires.room c.loop-letter.invariant c.push-letter.ensures
+    letter_turn (contents_of c.args.witness.now) (contents_of c.loop-letter.witness) (contents_of c.push_letter.new.self) c.args.word.now c.loop-letter.letter-index c.push_letter.result c.loop-letter-test.true
+    c.requires.started c.requires.below c.requires.room c.loop-letter.invariant c.push_letter.ensures
 
 pub returns : goal.returns
 returns c =

@@ -9,8 +9,8 @@ use Rattle.check.proofs.Adding.{all_entries, none_more, one_more, popped_fits}
 use Rattle.check.proofs.output.add_words.Goals as goal
 use Rattle.check.proofs.output.add_words.Goals.{then-system-x, else-system-x}
 
-pub add-word-requires : goal.add-word-requires
-add-word-requires c =
+pub add_word-requires : goal.add_word-requires
+add_word-requires c =
     let old : Contents = contents_of c.args.witness.now in
     let pops = c.args.pops.now in
     let x = c.loop-x.x in
@@ -29,7 +29,7 @@ loop-x-preserved c =
     let system : ℕ → Bool = marked c.args.system.now in
     let flag : system x ≡ get_or c.args.system.now x false = cond-true (ltb x 26) (get_or c.args.system.now x false) false (lt-ltb x 26 c.loop-x-test.true) in
     elim c.if-system-x.branch [
-      | then-system-x w ↦ ap contents_of w.witness_is ∙ w.add-word.ensures ∙ ap (λ k. with_entries k (popped_entry pops x ∷ k.entries)) c.loop-x.invariant ∙ ap (with_entries old) (one_more system (made_and_popped [] pops) old.rules x (flag ∙ w.if-system-x.true))
+      | then-system-x w ↦ ap contents_of w.witness_is ∙ w.add_word.ensures ∙ ap (λ k. with_entries k (popped_entry pops x ∷ k.entries)) c.loop-x.invariant ∙ ap (with_entries old) (one_more system (made_and_popped [] pops) old.rules x (flag ∙ w.if-system-x.true))
       | else-system-x w ↦ ap contents_of w.witness_is ∙ c.loop-x.invariant ∙ ap (with_entries old) (none_more system (made_and_popped [] pops) old.rules x (flag ∙ w.if-system-x.false))
     ]
 

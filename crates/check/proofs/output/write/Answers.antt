@@ -4,12 +4,12 @@ use Rattle.check.specs.Holding.{marked}
 use Rattle.check.specs.Popped.{popped_entries, with_entries}
 use Rattle.check.proofs.output.write.Goals as goal
 
-pub add-words-requires : goal.add-words-requires
-add-words-requires c = record {
+pub add_words-requires : goal.add_words-requires
+add_words-requires c = record {
   few = c.requires.few;
-  empty = ap (λ k. k.entries) c.add-rules.ensures;
-  fit = ap (λ k. entries_fit k.rules (popped_entries (marked c.args.system.now) c.args.pops.now)) c.add-rules.ensures ∙ c.requires.words_fit;
+  empty = ap (λ k. k.entries) c.add_rules.ensures;
+  fit = ap (λ k. entries_fit k.rules (popped_entries (marked c.args.system.now) c.args.pops.now)) c.add_rules.ensures ∙ c.requires.words_fit;
 }
 
 pub returns : goal.returns
-returns c = c.add-words.ensures ∙ ap (λ k. with_entries k (popped_entries (marked c.args.system.now) c.args.pops.now)) c.add-rules.ensures
+returns c = c.add_words.ensures ∙ ap (λ k. with_entries k (popped_entries (marked c.args.system.now) c.args.pops.now)) c.add_rules.ensures

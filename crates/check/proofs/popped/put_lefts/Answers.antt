@@ -9,11 +9,11 @@ use Rattle.check.proofs.popped.put_lefts.Goals as goal
 
 pub put-at-requires : goal.put-at-requires
 put-at-requires c =
-    omega (arith, front_room (left_of c.args.x) c.args.pops.now c.loop-pop.pop-index (AtLeft 0 0) c.loop-pop-test.true, ap length c.at-left.ensures, c.loop-pop.invariant.behind, c.loop-pop.auto.out)
+    omega (arith, front_room (left_of c.args.x) c.args.pops.now c.loop-pop.pop-index (AtLeft 0 0) c.loop-pop-test.true, ap length c.at_left.ensures, c.loop-pop.invariant.behind, c.loop-pop.auto.out)
 
 pub loop-pop-preserved : goal.loop-pop-preserved
 loop-pop-preserved c =
-    lefts_turn c.args.x c.args.pops.now c.loop-pop.pop-index (AtLeft 0 0) c.args.out.now c.loop-pop.out c.put-at.new.out _ c.loop-pop.at c.put-at.result c.loop-pop-test.true c.at-left.ensures
+    lefts_turn c.args.x c.args.pops.now c.loop-pop.pop-index (AtLeft 0 0) c.args.out.now c.loop-pop.out c.put-at.new.out _ c.loop-pop.at c.put-at.result c.loop-pop-test.true c.at_left.ensures
     c.loop-pop.invariant c.put-at.ensures
 
 pub returns : goal.returns

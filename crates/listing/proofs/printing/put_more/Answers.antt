@@ -7,27 +7,27 @@ use Rattle.listing.specs.Words.{names_after}
 use Rattle.listing.proofs.Texts.{after_more, after_room}
 use Rattle.listing.proofs.printing.put_more.Goals as goal
 
-pub put-bytes-gap-requires : goal.put-bytes-gap-requires
-put-bytes-gap-requires c =
+pub put_bytes-gap-requires : goal.put_bytes-gap-requires
+put_bytes-gap-requires c =
     let w = c.args.letters.now in
     let i = c.loop-i.i in
     let more = ap length (after_more w i c.loop-i-test.true) ∙ length-append (names_after (take i w)) (44 ∷ letter_name (get_or w i 0)) in
     omega (arith, after_room w (i + 1), c.loop-i.invariant.behind)
 
-pub put-letter-end-requires : goal.put-letter-end-requires
-put-letter-end-requires c =
+pub put_letter-end-requires : goal.put_letter-end-requires
+put_letter-end-requires c =
     let w = c.args.letters.now in
     let i = c.loop-i.i in
     let more = ap length (after_more w i c.loop-i-test.true) ∙ length-append (names_after (take i w)) (44 ∷ letter_name (get_or w i 0)) in
-    omega (arith, after_room w (i + 1), c.loop-i.invariant.behind, c.put-bytes-gap.ensures.behind)
+    omega (arith, after_room w (i + 1), c.loop-i.invariant.behind, c.put_bytes-gap.ensures.behind)
 
 pub loop-i-init : goal.loop-i-init
 loop-i-init c = put_none c.args.out.now c.args.at
 
 pub loop-i-preserved : goal.loop-i-preserved
 loop-i-preserved c =
-    subst (λ bs. Put c.args.out.now c.args.at bs c.put-letter-end.new.out c.put-letter-end.result) (sym (after_more c.args.letters.now c.loop-i.i c.loop-i-test.true))
-    (put_then c.loop-i.invariant (put_then c.put-bytes-gap.ensures c.put-letter-end.ensures))
+    subst (λ bs. Put c.args.out.now c.args.at bs c.put_letter-end.new.out c.put_letter-end.result) (sym (after_more c.args.letters.now c.loop-i.i c.loop-i-test.true))
+    (put_then c.loop-i.invariant (put_then c.put_bytes-gap.ensures c.put_letter-end.ensures))
 
 pub returns : goal.returns
 returns c =

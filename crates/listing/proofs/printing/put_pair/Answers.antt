@@ -6,25 +6,25 @@ use Rattle.format.proofs.Lengths.{rule_length}
 use Rattle.listing.proofs.Texts.{rule_parts}
 use Rattle.listing.proofs.printing.put_pair.Goals as goal
 
-pub put-letter-name-requires : goal.put-letter-name-requires
-put-letter-name-requires c = omega (arith, rule_length (letter_name c.args.made) (codes " pair ") (letter_name c.args.a) (letter_name c.args.b))
+pub put-letter_name-requires : goal.put-letter_name-requires
+put-letter_name-requires c = omega (arith, rule_length (letter_name c.args.made) (codes " pair ") (letter_name c.args.a) (letter_name c.args.b))
 
-pub put-bytes-make-requires : goal.put-bytes-make-requires
-put-bytes-make-requires c = omega (arith, rule_length (letter_name c.args.made) (codes " pair ") (letter_name c.args.a) (letter_name c.args.b))
+pub put_bytes-make-requires : goal.put_bytes-make-requires
+put_bytes-make-requires c = omega (arith, rule_length (letter_name c.args.made) (codes " pair ") (letter_name c.args.a) (letter_name c.args.b))
 
-pub put-letter-first-requires : goal.put-letter-first-requires
-put-letter-first-requires c = omega (arith, rule_length (letter_name c.args.made) (codes " pair ") (letter_name c.args.a) (letter_name c.args.b))
+pub put_letter-first-requires : goal.put_letter-first-requires
+put_letter-first-requires c = omega (arith, rule_length (letter_name c.args.made) (codes " pair ") (letter_name c.args.a) (letter_name c.args.b))
 
-pub put-bytes-gap-requires : goal.put-bytes-gap-requires
-put-bytes-gap-requires c = omega (arith, rule_length (letter_name c.args.made) (codes " pair ") (letter_name c.args.a) (letter_name c.args.b))
+pub put_bytes-gap-requires : goal.put_bytes-gap-requires
+put_bytes-gap-requires c = omega (arith, rule_length (letter_name c.args.made) (codes " pair ") (letter_name c.args.a) (letter_name c.args.b))
 
-pub put-letter-second-requires : goal.put-letter-second-requires
-put-letter-second-requires c = omega (arith, rule_length (letter_name c.args.made) (codes " pair ") (letter_name c.args.a) (letter_name c.args.b))
+pub put_letter-second-requires : goal.put_letter-second-requires
+put_letter-second-requires c = omega (arith, rule_length (letter_name c.args.made) (codes " pair ") (letter_name c.args.a) (letter_name c.args.b))
 
-pub put-bytes-requires : goal.put-bytes-requires
-put-bytes-requires c = omega (arith, rule_length (letter_name c.args.made) (codes " pair ") (letter_name c.args.a) (letter_name c.args.b))
+pub put_bytes-requires : goal.put_bytes-requires
+put_bytes-requires c = omega (arith, rule_length (letter_name c.args.made) (codes " pair ") (letter_name c.args.a) (letter_name c.args.b))
 
 pub returns : goal.returns
 returns c =
-    subst (λ bs. Put c.args.out.now c.args.at bs c.put-bytes.new.out c.put-bytes.result) (rule_parts (letter_name c.args.made) (codes " pair ") (letter_name c.args.a) (letter_name c.args.b))
-    (put_then c.put-letter-name.ensures (put_then c.put-bytes-make.ensures (put_then c.put-letter-first.ensures (put_then c.put-bytes-gap.ensures (put_then c.put-letter-second.ensures c.put-bytes.ensures)))))
+    subst (λ bs. Put c.args.out.now c.args.at bs c.put_bytes.new.out c.put_bytes.result) (rule_parts (letter_name c.args.made) (codes " pair ") (letter_name c.args.a) (letter_name c.args.b))
+    (put_then c.put-letter_name.ensures (put_then c.put_bytes-make.ensures (put_then c.put_letter-first.ensures (put_then c.put_bytes-gap.ensures (put_then c.put_letter-second.ensures c.put_bytes.ensures)))))

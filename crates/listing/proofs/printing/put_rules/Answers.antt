@@ -8,8 +8,8 @@ use Rattle.format.specs.Listing.{rule_line, rule_lines}
 use Rattle.listing.proofs.Texts.{front, front_more, front_room}
 use Rattle.listing.proofs.printing.put_rules.Goals as goal
 
-pub put-rule-end-requires : goal.put-rule-end-requires
-put-rule-end-requires c =
+pub put_rule-end-requires : goal.put_rule-end-requires
+put_rule-end-requires c =
     let rules = c.args.rules.now in
     let i = c.loop-i.i in
     let line = rule_line (26 + i) (get_or rules i (Pair 0 0)) in
@@ -21,8 +21,8 @@ loop-i-init c = put_none c.args.out.now c.args.at
 
 pub loop-i-preserved : goal.loop-i-preserved
 loop-i-preserved c =
-    subst (λ bs. Put c.args.out.now c.args.at bs c.put-rule-end.new.out c.put-rule-end.result) (sym (front_more c.args.rules.now c.loop-i.i (Pair 0 0) c.loop-i-test.true))
-    (put_then c.loop-i.invariant c.put-rule-end.ensures)
+    subst (λ bs. Put c.args.out.now c.args.at bs c.put_rule-end.new.out c.put_rule-end.result) (sym (front_more c.args.rules.now c.loop-i.i (Pair 0 0) c.loop-i-test.true))
+    (put_then c.loop-i.invariant c.put_rule-end.ensures)
 
 pub returns : goal.returns
 returns c =

@@ -10,25 +10,25 @@ use Rattle.listing.proofs.Holding.{known_few}
 use Rattle.listing.proofs.Texts.{listing_text}
 use Rattle.listing.proofs.printing.put_tables.Goals as goal
 
-pub put-rules-gap-requires : goal.put-rules-gap-requires
-put-rules-gap-requires c =
+pub put_rules-gap-requires : goal.put_rules-gap-requires
+put_rules-gap-requires c =
     let d = contents_of c.args.witness.now in
     let rules = c.rules-rules.result.now in (
       omega (arith, known_few c.args.witness.now, length-reverse rules, ap length c.rules-rules.ensures),
-      omega (arith, c.requires, listing_length d, c.put-bytes-first.ensures.behind, ap (λ l. length (lines_text (rule_lines l))) c.rules-rules.ensures),
+      omega (arith, c.requires, listing_length d, c.put_bytes-first.ensures.behind, ap (λ l. length (lines_text (rule_lines l))) c.rules-rules.ensures),
     )
 
-pub put-bytes-second-requires : goal.put-bytes-second-requires
-put-bytes-second-requires c =
-    omega (arith, c.requires, listing_length (contents_of c.args.witness.now), c.put-bytes-first.ensures.behind, c.put-rules-gap.ensures.behind, ap (λ l. length (lines_text (rule_lines l))) c.rules-rules.ensures)
+pub put_bytes-second-requires : goal.put_bytes-second-requires
+put_bytes-second-requires c =
+    omega (arith, c.requires, listing_length (contents_of c.args.witness.now), c.put_bytes-first.ensures.behind, c.put_rules-gap.ensures.behind, ap (λ l. length (lines_text (rule_lines l))) c.rules-rules.ensures)
 
-pub put-variables-requires : goal.put-variables-requires
-put-variables-requires c =
-    omega (arith, c.requires, listing_length (contents_of c.args.witness.now), c.put-bytes-first.ensures.behind, c.put-rules-gap.ensures.behind, c.put-bytes-second.ensures.behind, ap (λ l. length (lines_text (rule_lines l))) c.rules-rules.ensures)
+pub put_variables-requires : goal.put_variables-requires
+put_variables-requires c =
+    omega (arith, c.requires, listing_length (contents_of c.args.witness.now), c.put_bytes-first.ensures.behind, c.put_rules-gap.ensures.behind, c.put_bytes-second.ensures.behind, ap (λ l. length (lines_text (rule_lines l))) c.rules-rules.ensures)
 
 pub returns : goal.returns
 returns c =
     let d = contents_of c.args.witness.now in
-    let rules = subst (λ l. Put c.put-bytes-first.new.out c.put-bytes-first.result (lines_text (rule_lines l)) c.put-rules-gap.new.out c.put-rules-gap.result) c.rules-rules.ensures c.put-rules-gap.ensures in
-    subst (λ bs. Put c.args.out.now 0 bs c.put-variables.new.out c.put-variables.result) (listing_text d)
-    (put_then c.put-bytes-first.ensures (put_then rules (put_then c.put-bytes-second.ensures c.put-variables.ensures)))
+    let rules = subst (λ l. Put c.put_bytes-first.new.out c.put_bytes-first.result (lines_text (rule_lines l)) c.put_rules-gap.new.out c.put_rules-gap.result) c.rules-rules.ensures c.put_rules-gap.ensures in
+    subst (λ bs. Put c.args.out.now 0 bs c.put_variables.new.out c.put_variables.result) (listing_text d)
+    (put_then c.put_bytes-first.ensures (put_then rules (put_then c.put_bytes-second.ensures c.put_variables.ensures)))

@@ -16,8 +16,8 @@ loop-variable-init c =
     let d = contents_of c.args.witness.now in
     subst (λ es. Put c.args.out.now c.args.at (lines_text (entry_lines d.rules es)) c.args.out.now c.args.at) (sym (below_none d.entries)) (put_none c.args.out.now c.args.at)
 
-pub put-variable-end-requires : goal.put-variable-end-requires
-put-variable-end-requires c =
+pub put_variable-end-requires : goal.put_variable-end-requires
+put_variable-end-requires c =
     let d = contents_of c.args.witness.now in
     let i = c.loop-variable.variable in
     let more = ap length (table_more d i (entries_hold c.args.witness.now)) ∙ length-append (table d i) (variable_text d i) in
@@ -27,8 +27,8 @@ pub loop-variable-preserved : goal.loop-variable-preserved
 loop-variable-preserved c =
     let d = contents_of c.args.witness.now in
     let i = c.loop-variable.variable in
-    subst (λ bs. Put c.args.out.now c.args.at bs c.put-variable-end.new.out c.put-variable-end.result) (sym (table_more d i (entries_hold c.args.witness.now)))
-    (put_then c.loop-variable.invariant c.put-variable-end.ensures)
+    subst (λ bs. Put c.args.out.now c.args.at bs c.put_variable-end.new.out c.put_variable-end.result) (sym (table_more d i (entries_hold c.args.witness.now)))
+    (put_then c.loop-variable.invariant c.put_variable-end.ensures)
 
 pub returns : goal.returns
 returns c =

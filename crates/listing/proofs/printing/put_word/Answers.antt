@@ -15,18 +15,18 @@ parts w some = word_after (get_or w 0 0) (take (length w - 1) (drop 1 w)) ∙ ap
 room : (w : Word) → 0 < length w → length (word_text w) ≡ length (letter_name (get_or w 0 0)) + length (names_after (take (length w - 1) (drop 1 w)))
 room w some = ap length (sym (parts w some)) ∙ length-append (letter_name (get_or w 0 0)) (names_after (take (length w - 1) (drop 1 w)))
 
-pub put-letter-end-requires : goal.put-letter-end-requires
-put-letter-end-requires c =
+pub put_letter-end-requires : goal.put_letter-end-requires
+put_letter-end-requires c =
     let some : 0 < length c.args.word.now = search rules in
     omega (arith, c.requires, room c.args.word.now some)
 
-pub put-more-requires : goal.put-more-requires
-put-more-requires c =
+pub put_more-requires : goal.put_more-requires
+put_more-requires c =
     let some : 0 < length c.args.word.now = search rules in
-    omega (arith, c.requires, room c.args.word.now some, c.put-letter-end.ensures.behind, c.put-letter-end.auto.out)
+    omega (arith, c.requires, room c.args.word.now some, c.put_letter-end.ensures.behind, c.put_letter-end.auto.out)
 
 pub returns-in-len1-up : goal.returns-in-len1-up
 returns-in-len1-up c =
     let some : 0 < length c.args.word.now = search rules in
-    subst (λ bs. Put c.args.out.now c.args.at bs c.put-more.new.out c.put-more.result) (parts c.args.word.now some)
-    (put_then c.put-letter-end.ensures c.put-more.ensures)
+    subst (λ bs. Put c.args.out.now c.args.at bs c.put_more.new.out c.put_more.result) (parts c.args.word.now some)
+    (put_then c.put_letter-end.ensures c.put_more.ensures)

@@ -18,19 +18,19 @@ returns-then-n-lt10 t c =
     subst (λ ds. Put c.args.out.now c.args.at ds (set c.args.out.now c.args.at (48 + c.args.n)) (c.args.at + 1)) (sym (decimal_digit c.args.n c.if-n-lt10.true))
     (put_one c.args.out.now c.args.at (48 + c.args.n) inside)
 
-pub put-number-last-requires : goal.put-number-last-requires
-put-number-last-requires t c = (search rules, omega (arith, c.requires, longer c.args.n c.if-n-lt10.false (omega arith)))
+pub put_number-last-requires : goal.put_number-last-requires
+put_number-last-requires t c = (search rules, omega (arith, c.requires, longer c.args.n c.if-n-lt10.false (omega arith)))
 
 pub bounds-out-last : goal.bounds-out-last
-bounds-out-last t c = omega (arith, c.requires, c.put-number-last.ensures.behind, c.put-number-last.auto.out, longer c.args.n c.if-n-lt10.false (omega arith))
+bounds-out-last t c = omega (arith, c.requires, c.put_number-last.ensures.behind, c.put_number-last.auto.out, longer c.args.n c.if-n-lt10.false (omega arith))
 
-pub overflow-add-result-2 : goal.overflow-add-result-2
-overflow-add-result-2 t c =
-    let l : c.put-number-last.result + 1 ≤ length c.args.out.now = omega (arith, c.requires, c.put-number-last.ensures.behind, longer c.args.n c.if-n-lt10.false (omega arith)) in
+pub overflow_add-result-2 : goal.overflow_add-result-2
+overflow_add-result-2 t c =
+    let l : c.put_number-last.result + 1 ≤ length c.args.out.now = omega (arith, c.requires, c.put_number-last.ensures.behind, longer c.args.n c.if-n-lt10.false (omega arith)) in
     search rules
 
 pub returns : goal.returns
 returns t c =
-    let l : c.put-number-last.result < length c.put-number-last.new.out = omega (arith, c.requires, c.put-number-last.ensures.behind, c.put-number-last.auto.out, longer c.args.n c.if-n-lt10.false (omega arith)) in
-    subst (λ ds. Put c.args.out.now c.args.at ds (set c.put-number-last.new.out c.put-number-last.result (48 + c.args.n % 10)) (c.put-number-last.result + 1)) (sym (decimal_step c.args.n c.if-n-lt10.false (omega arith)))
-    (put_then c.put-number-last.ensures (put_one c.put-number-last.new.out c.put-number-last.result (48 + c.args.n % 10) l))
+    let l : c.put_number-last.result < length c.put_number-last.new.out = omega (arith, c.requires, c.put_number-last.ensures.behind, c.put_number-last.auto.out, longer c.args.n c.if-n-lt10.false (omega arith)) in
+    subst (λ ds. Put c.args.out.now c.args.at ds (set c.put_number-last.new.out c.put_number-last.result (48 + c.args.n % 10)) (c.put_number-last.result + 1)) (sym (decimal_step c.args.n c.if-n-lt10.false (omega arith)))
+    (put_then c.put_number-last.ensures (put_one c.put_number-last.new.out c.put_number-last.result (48 + c.args.n % 10) l))

@@ -17,23 +17,23 @@ returns-then-eq c =
     let is : c.args.line.now ≡ rule_head = (slice_eq-Decides Decides-eqb _ _ _ c.eq.ensures).0 c.if-eq.true in
     subst (λ s. Led s d c.args.line.now Rules d) (sym c.in-Opening.is) (led_opening d c.args.line.now (subst (λ s. Even s d) c.in-Opening.is c.requires) is)
 
-pub returns-then-is-empty : goal.returns-then-is-empty
-returns-then-is-empty c =
+pub returns-then-is_empty : goal.returns-then-is_empty
+returns-then-is_empty c =
     let d = contents_of c.args.witness.now in
-    let none : c.args.line.now ≡ [] = nil_from_length c.args.line.now (true-eqb _ 0 c.if-is-empty.ensures) in
+    let none : c.args.line.now ≡ [] = nil_from_length c.args.line.now (true-eqb _ 0 c.if-is_empty.ensures) in
     subst (λ s. Led s d c.args.line.now Gap d) (sym c.in-Rules.is) (led_empty d c.args.line.now (subst (λ s. Even s d) c.in-Rules.is c.requires) none)
 
-pub returns-then-read-rule : goal.returns-then-read-rule
-returns-then-read-rule c =
+pub returns-then-read_rule : goal.returns-then-read_rule
+returns-then-read_rule c =
     let d = contents_of c.args.witness.now in
-    let new = contents_of c.read-rule.new.witness in
-    subst (λ s. Led s d c.args.line.now Rules new) (sym c.in-Rules.is) (led_rule d c.args.line.now new (subst (λ s. Even s d) c.in-Rules.is c.requires) c.if-read-rule.ensures)
+    let new = contents_of c.read_rule.new.witness in
+    subst (λ s. Led s d c.args.line.now Rules new) (sym c.in-Rules.is) (led_rule d c.args.line.now new (subst (λ s. Even s d) c.in-Rules.is c.requires) c.if-read_rule.ensures)
 
-pub returns-else-read-rule : goal.returns-else-read-rule
-returns-else-read-rule c =
+pub returns-else-read_rule : goal.returns-else-read_rule
+returns-else-read_rule c =
     let d = contents_of c.args.witness.now in
     let l = c.args.line.now in
-    subst (λ s. Stuck (state_of s d) l) (sym c.in-Rules.is) (stuck_rules d l (λ e. both_ways c.is_empty.result c.if-is-empty.false (c.is_empty.ensures ∙ eq-eqb (length l) 0 (ap length e))) c.if-read-rule.ensures)
+    subst (λ s. Stuck (state_of s d) l) (sym c.in-Rules.is) (stuck_rules d l (λ e. both_ways c.is_empty.result c.if-is_empty.false (c.is_empty.ensures ∙ eq-eqb (length l) 0 (ap length e))) c.if-read_rule.ensures)
 
 pub returns-then-eq-2 : goal.returns-then-eq-2
 returns-then-eq-2 c =
@@ -41,13 +41,13 @@ returns-then-eq-2 c =
     let is : c.args.line.now ≡ entry_head = (slice_eq-Decides Decides-eqb _ _ _ c.eq-in-Gap.ensures).0 c.if-eq-2.true in
     subst (λ s. Led s d c.args.line.now Variables d) (sym c.in-Gap.is) (led_gap d c.args.line.now (subst (λ s. Even s d) c.in-Gap.is c.requires) is)
 
-pub returns-then-read-entry : goal.returns-then-read-entry
-returns-then-read-entry c =
+pub returns-then-read_entry : goal.returns-then-read_entry
+returns-then-read_entry c =
     let d = contents_of c.args.witness.now in
-    let new = contents_of c.read-entry.new.witness in
-    subst (λ s. Led s d c.args.line.now Variables new) (sym c.in-Variables.is) (led_variable d c.args.line.now new c.if-read-entry.ensures)
+    let new = contents_of c.read_entry.new.witness in
+    subst (λ s. Led s d c.args.line.now Variables new) (sym c.in-Variables.is) (led_variable d c.args.line.now new c.if-read_entry.ensures)
 
-pub returns-else-read-entry : goal.returns-else-read-entry
-returns-else-read-entry c =
+pub returns-else-read_entry : goal.returns-else-read_entry
+returns-else-read_entry c =
     let d = contents_of c.args.witness.now in
-    subst (λ s. Stuck (state_of s d) c.args.line.now) (sym c.in-Variables.is) c.if-read-entry.ensures
+    subst (λ s. Stuck (state_of s d) c.args.line.now) (sym c.in-Variables.is) c.if-read_entry.ensures

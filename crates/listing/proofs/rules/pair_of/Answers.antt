@@ -4,15 +4,15 @@ use Rattle.text.proofs.Readers.{reads_uncut, reads_first, reads_second}
 use Rattle.listing.proofs.RuleLines.{spaceless}
 use Rattle.listing.proofs.rules.pair_of.Goals as goal
 
-pub returns-in-err-first : goal.returns-in-err-first
-returns-in-err-first c = rw c.from-residual.ensures (reads_uncut (Below 538) (Below 538) letter_name letter_name 32 c.args.fields.now c.in-err-first.ensures)
+pub returns-in_err-first : goal.returns-in_err-first
+returns-in_err-first c = rw c.from_residual.ensures (reads_uncut (Below 538) (Below 538) letter_name letter_name 32 c.args.fields.now c.in_err-first.ensures)
 
-pub returns-in-err-a : goal.returns-in-err-a
-returns-in-err-a c =
-    let cut = c.in-ok-first.ensures in
-    rw c.from-residual-in-err-a.ensures (reads_first (Below 538) (Below 538) letter_name letter_name 32 c.args.fields.now c.in-ok-first.first.now c.in-ok-first.second.now spaceless cut.0 cut.1 c.in-err-a.ensures)
+pub returns-in_err-a : goal.returns-in_err-a
+returns-in_err-a c =
+    let cut = c.in_ok-first.ensures in
+    rw c.from_residual-in_err-a.ensures (reads_first (Below 538) (Below 538) letter_name letter_name 32 c.args.fields.now c.in_ok-first.first.now c.in_ok-first.second.now spaceless cut.0 cut.1 c.in_err-a.ensures)
 
-pub returns-in-err-b : goal.returns-in-err-b
-returns-in-err-b c =
-    let cut = c.in-ok-first.ensures in
-    rw c.from-residual-in-err-b.ensures (reads_second (Below 538) (Below 538) letter_name letter_name 32 c.args.fields.now c.in-ok-first.first.now c.in-ok-first.second.now spaceless cut.0 cut.1 c.in-err-b.ensures)
+pub returns-in_err-b : goal.returns-in_err-b
+returns-in_err-b c =
+    let cut = c.in_ok-first.ensures in
+    rw c.from_residual-in_err-b.ensures (reads_second (Below 538) (Below 538) letter_name letter_name 32 c.args.fields.now c.in_ok-first.first.now c.in_ok-first.second.now spaceless cut.0 cut.1 c.in_err-b.ensures)

@@ -15,26 +15,26 @@ returns-then-eq c =
 pub loop-piece-init : goal.loop-piece-init
 loop-piece-init c = midway_none (contents_of c.args.witness.now) c.args.field.now
 
-pub push-piece-requires : goal.push-piece-requires
-push-piece-requires c = midway_some (contents_of c.args.witness.now) c.args.field.now (contents_of c.loop-piece.witness) c.loop-piece.rest.now c.loop-piece.invariant c.requires
+pub push_piece-requires : goal.push_piece-requires
+push_piece-requires c = midway_some (contents_of c.args.witness.now) c.args.field.now (contents_of c.loop-piece.witness) c.loop-piece.rest.now c.loop-piece.invariant c.requires
 
-pub returns-then-not-push-piece : goal.returns-then-not-push-piece
-returns-then-not-push-piece c =
+pub returns-then-not-push_piece : goal.returns-then-not-push_piece
+returns-then-not-push_piece c =
     let cut = c.in-Some.ensures in
     no_word_piece (contents_of c.args.witness.now) c.args.field.now (contents_of c.loop-piece.witness) c.loop-piece.rest.now c.in-Some.piece.now c.in-Some.after.now (known_few c.args.witness.now)
-    (λ is. true≢false (sym ((slice_eq-Decides Decides-eqb _ _ _ c.eq.ensures).1 is) ∙ c.if-eq.false)) c.loop-piece.invariant cut.0 cut.1 c.if-not-push-piece.ensures
+    (λ is. true≢false (sym ((slice_eq-Decides Decides-eqb _ _ _ c.eq.ensures).1 is) ∙ c.if-eq.false)) c.loop-piece.invariant cut.0 cut.1 c.if-not-push_piece.ensures
 
 pub loop-piece-smaller : goal.loop-piece-smaller
 loop-piece-smaller c = omega (arith, ap length c.in-Some.ensures.1, length-append c.in-Some.piece.now (44 ∷ c.in-Some.after.now))
 
 pub loop-piece-preserved : goal.loop-piece-preserved
 loop-piece-preserved c =
-    midway_more (contents_of c.args.witness.now) c.args.field.now (contents_of c.loop-piece.witness) c.loop-piece.rest.now c.in-Some.piece.now c.in-Some.after.now (contents_of c.push-piece.new.witness) c.loop-piece.invariant c.in-Some.ensures.1 c.if-not-push-piece.ensures
+    midway_more (contents_of c.args.witness.now) c.args.field.now (contents_of c.loop-piece.witness) c.loop-piece.rest.now c.in-Some.piece.now c.in-Some.after.now (contents_of c.push_piece.new.witness) c.loop-piece.invariant c.in-Some.ensures.1 c.if-not-push_piece.ensures
 
-pub push-piece-requires-2 : goal.push-piece-requires-2
-push-piece-requires-2 c = midway_some (contents_of c.args.witness.now) c.args.field.now (contents_of c.loop-piece.witness) c.loop-piece.rest.now c.loop-piece.invariant c.requires
+pub push_piece-requires-2 : goal.push_piece-requires-2
+push_piece-requires-2 c = midway_some (contents_of c.args.witness.now) c.args.field.now (contents_of c.loop-piece.witness) c.loop-piece.rest.now c.loop-piece.invariant c.requires
 
 pub returns : goal.returns
 returns c =
-    word_last (contents_of c.args.witness.now) c.args.field.now (contents_of c.loop-piece.witness) c.loop-piece.rest.now (contents_of c.push-piece-2.new.witness) c.push-piece-2.result (known_few c.args.witness.now)
-    (λ is. true≢false (sym ((slice_eq-Decides Decides-eqb _ _ _ c.eq.ensures).1 is) ∙ c.if-eq.false)) c.loop-piece.invariant c.in-default.ensures c.push-piece-2.ensures
+    word_last (contents_of c.args.witness.now) c.args.field.now (contents_of c.loop-piece.witness) c.loop-piece.rest.now (contents_of c.push_piece-2.new.witness) c.push_piece-2.result (known_few c.args.witness.now)
+    (λ is. true≢false (sym ((slice_eq-Decides Decides-eqb _ _ _ c.eq.ensures).1 is) ∙ c.if-eq.false)) c.loop-piece.invariant c.in_default.ensures c.push_piece-2.ensures

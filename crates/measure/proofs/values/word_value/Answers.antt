@@ -19,4 +19,4 @@ returns g c =
     let t = c.args.table.now in
     let w = c.args.word.now in
     let whole : c.loop-letter.value ≡ table_value (m.nothing k) (m.joined k) t w = c.loop-letter.invariant.1 ∙ ap (table_value (m.nothing k) (m.joined k) t) (take_all _ _ c.loop-letter-test.false) in
-    record { by-table = whole; by-spelling = λ rules filled all. whole ∙ table_spells (m.single k) (m.associative k) (m.neutral k) rules t w filled all }
+    record { by_table = whole; by_spelling = λ rules filled all. whole ∙ table_spells (m.single k) (m.associative k) (m.neutral k) rules t w filled all }

@@ -4,19 +4,19 @@ use Rattle.readout.proofs.adding.add_refusal.Goals as goal
 
 pub returns : goal.returns
 returns c =
-    all_behind c.args.out.now.items (codes "refusal line detail\n" ∷ decimal c.args.number ∷ codes " " ∷ decimal c.args.line ∷ codes " " ∷ c.args.detail.now ∷ codes "\n" ∷ []) c.extend-from-slice-5.new.self.items (
+    all_behind c.args.out.now.items (codes "refusal line detail\n" ∷ decimal c.args.number ∷ codes " " ∷ decimal c.args.line ∷ codes " " ∷ c.args.detail.now ∷ codes "\n" ∷ []) c.extend_from_slice-5.new.self.items (
       _,
-      c.in-ok-extend-from-slice.ensures.items,
+      c.in_ok-extend_from_slice.ensures.items,
       (
         _,
-        c.in-ok-add-number.ensures ∙ ap (λ n. c.extend-from-slice.new.self.items ++ decimal n) c.from.ensures,
+        c.in_ok-add_number.ensures ∙ ap (λ n. c.extend_from_slice.new.self.items ++ decimal n) c.from.ensures,
         (
           _,
-          c.in-ok-extend-from-slice-2.ensures.items,
+          c.in_ok-extend_from_slice-2.ensures.items,
           (
             _,
-            c.in-ok-add-number-2.ensures,
-            (_, c.in-ok-extend-from-slice-3.ensures.items, (_, c.in-ok-extend-from-slice-4.ensures.items, (_, c.in-ok-extend-from-slice-5.ensures.items, refl))),
+            c.in_ok-add_number-2.ensures,
+            (_, c.in_ok-extend_from_slice-3.ensures.items, (_, c.in_ok-extend_from_slice-4.ensures.items, (_, c.in_ok-extend_from_slice-5.ensures.items, refl))),
           ),
         ),
       ),

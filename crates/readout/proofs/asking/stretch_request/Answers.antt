@@ -13,7 +13,7 @@ too_many name start count n many few is (Stretch x s k) ok e =
     let same : n ≡ k = decimal_injective n k (omega arith) (omega arith) (sym is ∙ ap (λ w. w.2) e) in
     omega arith
 
-pub returns-then-count-gt-MOST-LETTERS : goal.returns-then-count-gt-MOST-LETTERS
-returns-then-count-gt-MOST-LETTERS c =
-    let counted = c.in-ok-count.ensures in
-    too_many c.args.name.now c.args.start.now c.args.count.now c.in-ok-count.count c.if-count-gt-MOST-LETTERS.true counted.0 counted.1
+pub returns-then-count-gt-MOST_LETTERS : goal.returns-then-count-gt-MOST_LETTERS
+returns-then-count-gt-MOST_LETTERS c =
+    let counted = c.in_ok-count.ensures in
+    too_many c.args.name.now c.args.start.now c.args.count.now c.in_ok-count.count c.if-count-gt-MOST_LETTERS.true counted.0 counted.1

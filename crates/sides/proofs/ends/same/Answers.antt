@@ -11,7 +11,7 @@ loop-i-preserved c =
     let i = c.loop-i.i in
     let low : i < length a = omega arith in
     let low_too : i < length b = omega arith in
-    take_more_same a b i End low low_too c.loop-i.invariant (same_is (get_or a i End) (get_or b i End) (sym c.if-not-is-same.ensures))
+    take_more_same a b i End low low_too c.loop-i.invariant (same_is (get_or a i End) (get_or b i End) (sym c.if-not-is_same.ensures))
 
 pub returns : goal.returns
 returns c =

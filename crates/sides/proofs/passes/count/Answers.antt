@@ -5,7 +5,7 @@ use Rattle.sides.specs.declared.mark.Mark.{Mark}
 use Rattle.sides.specs.declared.mark.Mark.TheVariants.{End}
 use Rattle.sides.specs.Marks.{lifted, count_of}
 use Rattle.sides.proofs.passes.count.Goals as goal
-use Rattle.sides.proofs.passes.count.Goals.{then-is-variable, else-is-variable}
+use Rattle.sides.proofs.passes.count.Goals.{then-is_variable, else-is_variable}
 
 pub loop-mark-preserved : goal.loop-mark-preserved
 loop-mark-preserved c =
@@ -14,9 +14,9 @@ loop-mark-preserved c =
     let i = c.loop-mark.mark-index in
     let m : Mark = get_or s i End in
     let step : count_of x (drop i s) ≡ cond (lifted (is_variable x) m) 1 0 + count_of x (drop (i + 1) s) = at_drop_more (count_of x) s i End c.loop-mark-test.true in
-    elim c.if-is-variable.branch [
-      | then-is-variable w ↦ let one = ap {B = ℕ} (λ b. cond b 1 0) (sym w.if-is-variable.ensures) in omega (arith, w.n-is, one, step, c.loop-mark.invariant.1)
-      | else-is-variable w ↦ let none = ap {B = ℕ} (λ b. cond b 1 0) (sym w.if-is-variable.ensures) in omega (arith, w.n-is, none, step, c.loop-mark.invariant.1)
+    elim c.if-is_variable.branch [
+      | then-is_variable w ↦ let one = ap {B = ℕ} (λ b. cond b 1 0) (sym w.if-is_variable.ensures) in omega (arith, w.n-is, one, step, c.loop-mark.invariant.1)
+      | else-is_variable w ↦ let none = ap {B = ℕ} (λ b. cond b 1 0) (sym w.if-is_variable.ensures) in omega (arith, w.n-is, none, step, c.loop-mark.invariant.1)
     ]
 
 pub returns : goal.returns

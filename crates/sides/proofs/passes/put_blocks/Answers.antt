@@ -8,7 +8,7 @@ use Rattle.sides.specs.declared.mark.Mark.TheVariants.{End, At}
 use Rattle.sides.specs.Marks.{lifted}
 use Rattle.sides.proofs.Loops.{turn, longer, other}
 use Rattle.sides.proofs.passes.put_blocks.Goals as goal
-use Rattle.sides.proofs.passes.put_blocks.Goals.{then-is-letter, else-is-letter}
+use Rattle.sides.proofs.passes.put_blocks.Goals.{then-is_letter, else-is_letter}
 
 pub loop-mark-preserved : goal.loop-mark-preserved
 loop-mark-preserved c =
@@ -20,21 +20,21 @@ loop-mark-preserved c =
     let p : Mark → Bool = lifted (is_letter c.args.a) in
     let blocks : ℕ → List Mark → List Mark = replace_blocks p a c.args.n new in
     let out = vec_items c.loop-mark.out in
-    elim c.if-is-letter.branch [
-      | then-is-letter w ↦ (
-        turn (blocks 0 s) out (vec_items c.if-is-letter.out) [] (blocks k (drop i s)) (blocks c.if-is-letter.count (drop (i + 1) s)) (ap vec_items w.out-is ∙ sym (append-nil out))
-            (longer p a c.args.n new End s i k c.loop-mark-test.true (sym w.if-is-letter.ensures) ∙ ap (λ m. blocks m (drop (i + 1) s)) (sym w.count-is)) c.loop-mark.invariant.0,
+    elim c.if-is_letter.branch [
+      | then-is_letter w ↦ (
+        turn (blocks 0 s) out (vec_items c.if-is_letter.out) [] (blocks k (drop i s)) (blocks c.if-is_letter.count (drop (i + 1) s)) (ap vec_items w.out-is ∙ sym (append-nil out))
+            (longer p a c.args.n new End s i k c.loop-mark-test.true (sym w.if-is_letter.ensures) ∙ ap (λ m. blocks m (drop (i + 1) s)) (sym w.count-is)) c.loop-mark.invariant.0,
         ap vec_capacity w.out-is ∙ c.loop-mark.invariant.1,
         omega (arith, w.count-is, ap vec_len w.out-is, c.loop-mark.invariant.2),
       )
-      | else-is-letter w ↦
+      | else-is_letter w ↦
           let r = row a c.args.n new k in
           let x = get_or s i End in (
-            turn (blocks 0 s) out (vec_items c.if-is-letter.out) (r ++ (x ∷ [])) (blocks k (drop i s)) (blocks c.if-is-letter.count (drop (i + 1) s))
-                (ap vec_items w.out-is ∙ w.push-reserved.ensures.items ∙ ap (λ o. o ++ (x ∷ [])) w.put-block.ensures.items ∙ append_assoc out r (x ∷ []))
-                (other p a c.args.n new End s i k c.loop-mark-test.true (sym w.if-is-letter.ensures) ∙ ap (λ m. r ++ (x ∷ blocks m (drop (i + 1) s))) (sym w.count-is) ∙ sym (append_assoc r (x ∷ []) (blocks c.if-is-letter.count (drop (i + 1) s)))) c.loop-mark.invariant.0,
-            ap vec_capacity w.out-is ∙ w.push-reserved.ensures.capacity ∙ w.put-block.ensures.capacity ∙ c.loop-mark.invariant.1,
-            omega (arith, w.count-is, ap vec_len w.out-is, w.push-reserved.ensures.len, w.put-block.ensures.bound, c.loop-mark.invariant.2),
+            turn (blocks 0 s) out (vec_items c.if-is_letter.out) (r ++ (x ∷ [])) (blocks k (drop i s)) (blocks c.if-is_letter.count (drop (i + 1) s))
+                (ap vec_items w.out-is ∙ w.push_reserved.ensures.items ∙ ap (λ o. o ++ (x ∷ [])) w.put_block.ensures.items ∙ append_assoc out r (x ∷ []))
+                (other p a c.args.n new End s i k c.loop-mark-test.true (sym w.if-is_letter.ensures) ∙ ap (λ m. r ++ (x ∷ blocks m (drop (i + 1) s))) (sym w.count-is) ∙ sym (append_assoc r (x ∷ []) (blocks c.if-is_letter.count (drop (i + 1) s)))) c.loop-mark.invariant.0,
+            ap vec_capacity w.out-is ∙ w.push_reserved.ensures.capacity ∙ w.put_block.ensures.capacity ∙ c.loop-mark.invariant.1,
+            omega (arith, w.count-is, ap vec_len w.out-is, w.push_reserved.ensures.len, w.put_block.ensures.bound, c.loop-mark.invariant.2),
           )
     ]
 
@@ -48,7 +48,7 @@ returns c =
     let blocks : ℕ → List Mark → List Mark = replace_blocks (lifted (is_letter c.args.a)) a c.args.n new in
     let out = vec_items c.loop-mark.out in
     record {
-      items = c.put-block-2.ensures.items ∙ ap (λ r. out ++ r) (sym (at_drop_all (blocks k) s i c.loop-mark-test.false)) ∙ c.loop-mark.invariant.0;
-      capacity = c.put-block-2.ensures.capacity ∙ c.loop-mark.invariant.1 ∙ c.clear.ensures.capacity;
-      bound = omega (arith, c.put-block-2.ensures.bound, c.loop-mark.invariant.2);
+      items = c.put_block-2.ensures.items ∙ ap (λ r. out ++ r) (sym (at_drop_all (blocks k) s i c.loop-mark-test.false)) ∙ c.loop-mark.invariant.0;
+      capacity = c.put_block-2.ensures.capacity ∙ c.loop-mark.invariant.1 ∙ c.clear.ensures.capacity;
+      bound = omega (arith, c.put_block-2.ensures.bound, c.loop-mark.invariant.2);
     }

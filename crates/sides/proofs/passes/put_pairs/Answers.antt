@@ -8,19 +8,19 @@ use Rattle.sides.specs.declared.mark.Mark.TheVariants.{End, At}
 use Rattle.sides.specs.Marks.{lifted, mark_pairs}
 use Rattle.sides.proofs.Loops.{turn, hit, miss, done}
 use Rattle.sides.proofs.passes.put_pairs.Goals as goal
-use Rattle.sides.proofs.passes.put_pairs.Goals.{else-i-marks-via-then-i-marks+then-is-letter+else-is-letter-2, else-i-marks-via-then-i-marks+else-is-letter, else-i-marks-via-else-i-marks}
+use Rattle.sides.proofs.passes.put_pairs.Goals.{else-i-marks-via-then-i-marks+then-is_letter+else-is_letter-2, else-i-marks-via-then-i-marks+else-is_letter, else-i-marks-via-else-i-marks}
 
-pub loop-i-preserved-then-is-letter-2 : goal.loop-i-preserved-then-is-letter-2
-loop-i-preserved-then-is-letter-2 c =
+pub loop-i-preserved-then-is_letter-2 : goal.loop-i-preserved-then-is_letter-2
+loop-i-preserved-then-is_letter-2 c =
     let s = c.args.marks.now in
     let i = c.loop-i.i in
     let f = mark_pairs c.args.a c.args.b c.args.new in
     let new : Mark = At (Letter c.args.new) in (
-      turn (f s) (vec_items c.loop-i.out) (vec_items c.push-reserved.new.self) (new ∷ []) (f (drop i s)) (f (drop (i + 2) s)) c.push-reserved.ensures.items
-          (hit (lifted (is_letter c.args.a)) (lifted (is_letter c.args.b)) new End s i c.if-i-marks.true (sym c.is_letter.ensures ∙ c.if-is-letter.true) (sym c.is-letter-then-is-letter.ensures ∙ c.if-is-letter-2.true))
+      turn (f s) (vec_items c.loop-i.out) (vec_items c.push_reserved.new.self) (new ∷ []) (f (drop i s)) (f (drop (i + 2) s)) c.push_reserved.ensures.items
+          (hit (lifted (is_letter c.args.a)) (lifted (is_letter c.args.b)) new End s i c.if-i-marks.true (sym c.is_letter.ensures ∙ c.if-is_letter.true) (sym c.is_letter-then-is_letter.ensures ∙ c.if-is_letter-2.true))
           c.loop-i.invariant.0,
-      c.push-reserved.ensures.capacity ∙ c.loop-i.invariant.1,
-      omega (arith, c.push-reserved.ensures.len, c.loop-i.invariant.2),
+      c.push_reserved.ensures.capacity ∙ c.loop-i.invariant.1,
+      omega (arith, c.push_reserved.ensures.len, c.loop-i.invariant.2),
       omega (arith, c.if-i-marks.true),
     )
 
@@ -30,16 +30,16 @@ loop-i-preserved c =
     let i = c.loop-i.i in
     let f = mark_pairs c.args.a c.args.b c.args.new in
     let new : Mark = At (Letter c.args.new) in (
-      turn (f s) (vec_items c.loop-i.out) (vec_items c.push-reserved-else-i-marks.new.self) (get_or s i End ∷ []) (f (drop i s)) (f (drop (i + 1) s)) c.push-reserved-else-i-marks.ensures.items
+      turn (f s) (vec_items c.loop-i.out) (vec_items c.push_reserved-else-i-marks.new.self) (get_or s i End ∷ []) (f (drop i s)) (f (drop (i + 1) s)) c.push_reserved-else-i-marks.ensures.items
           (miss (lifted (is_letter c.args.a)) (lifted (is_letter c.args.b)) new End s i c.loop-i-test.true
           (λ lt. elim c.else-i-marks.branch [
-            | else-i-marks-via-then-i-marks+then-is-letter+else-is-letter-2 w ↦ and_right _ _ (sym w.is-letter-then-is-letter.ensures ∙ w.if-is-letter-2.false)
-            | else-i-marks-via-then-i-marks+else-is-letter w ↦ and_left _ _ (sym w.is_letter.ensures ∙ w.if-is-letter.false)
+            | else-i-marks-via-then-i-marks+then-is_letter+else-is_letter-2 w ↦ and_right _ _ (sym w.is_letter-then-is_letter.ensures ∙ w.if-is_letter-2.false)
+            | else-i-marks-via-then-i-marks+else-is_letter w ↦ and_left _ _ (sym w.is_letter.ensures ∙ w.if-is_letter.false)
             | else-i-marks-via-else-i-marks w ↦ absurd (omega (arith, w.if-i-marks.false))
           ]))
           c.loop-i.invariant.0,
-      c.push-reserved-else-i-marks.ensures.capacity ∙ c.loop-i.invariant.1,
-      omega (arith, c.push-reserved-else-i-marks.ensures.len, c.loop-i.invariant.2),
+      c.push_reserved-else-i-marks.ensures.capacity ∙ c.loop-i.invariant.1,
+      omega (arith, c.push_reserved-else-i-marks.ensures.len, c.loop-i.invariant.2),
       omega (arith, c.loop-i-test.true),
     )
 

@@ -9,10 +9,10 @@ loop-place-preserved c =
     let s = c.args.row.now in
     let i = c.loop-place.place-index in
     let old = vec_items c.args.out.now in (
-      c.push-reserved.ensures.items ∙ ap (λ o. o ++ (At (get_or s i (Letter 0)) ∷ [])) c.loop-place.invariant.0
+      c.push_reserved.ensures.items ∙ ap (λ o. o ++ (At (get_or s i (Letter 0)) ∷ [])) c.loop-place.invariant.0
           ∙ append_assoc old (map At (take i s)) (At (get_or s i (Letter 0)) ∷ []) ∙ ap (λ r. old ++ r) (sym (map_more At s i (Letter 0) c.loop-place-test.true)),
-      omega (arith, c.push-reserved.ensures.len, c.loop-place.invariant.1),
-      c.push-reserved.ensures.capacity ∙ c.loop-place.invariant.2,
+      omega (arith, c.push_reserved.ensures.len, c.loop-place.invariant.1),
+      c.push_reserved.ensures.capacity ∙ c.loop-place.invariant.2,
     )
 
 pub returns : goal.returns

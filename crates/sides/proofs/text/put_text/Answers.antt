@@ -17,10 +17,10 @@ loop-b-preserved c =
     let step = at_drop_more (λ t. map At (side_of t)) bs i 0 c.loop-b-test.true in
     elim c.match-read.branch [
       | in-Some w ↦ (
-        turn whole out (vec_items c.match-read.out) (At w.in-Some.place ∷ []) left rest (ap vec_items w.out-is ∙ w.push-reserved.ensures.items)
+        turn whole out (vec_items c.match-read.out) (At w.in-Some.place ∷ []) left rest (ap vec_items w.out-is ∙ w.push_reserved.ensures.items)
             (step ∙ ap (λ o. map At (at_most_one o ++ side_of (drop (i + 1) bs))) (sym w.in-Some.ensures)) c.loop-b.invariant.0,
-        ap vec_capacity w.out-is ∙ w.push-reserved.ensures.capacity ∙ c.loop-b.invariant.1,
-        omega (arith, ap vec_len w.out-is, w.push-reserved.ensures.len, c.loop-b.invariant.2),
+        ap vec_capacity w.out-is ∙ w.push_reserved.ensures.capacity ∙ c.loop-b.invariant.1,
+        omega (arith, ap vec_len w.out-is, w.push_reserved.ensures.len, c.loop-b.invariant.2),
       )
       | in-None w ↦ (
         turn whole out (vec_items c.match-read.out) [] left rest (ap vec_items w.out-is ∙ sym (append-nil out))

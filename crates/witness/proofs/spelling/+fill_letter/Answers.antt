@@ -18,8 +18,8 @@ locate-spot-requires t c =
 pub loop-i-init : goal.loop-i-init
 loop-i-init t c = filling_start _ _ _ _ _ _ _ (omega (arith, c.requires.room)) c.locate-spot.ensures
 
-pub fill-letter-end-requires : goal.fill-letter-end-requires
-fill-letter-end-requires t c =
+pub fill_letter-end-requires : goal.fill_letter-end-requires
+fill_letter-end-requires t c =
     let s = c.args.letters.now in
     let lt : c.loop-i.i < length (parts c.in-Some.rule) = omega arith in
     let part = part_of (rules_of s) c.args.letter c.in-Some.rule c.loop-i.i c.part.result s.fit (sym c.in-Some.ensures) lt c.part.ensures in
@@ -33,17 +33,17 @@ loop-i-preserved t c =
     let end = c.loop-i.end in
     let lt : c.loop-i.i < length (parts c.in-Some.rule) = omega arith in
     let part : c.part.result ≡ get_or (parts c.in-Some.rule) c.loop-i.i 0 = c.part.ensures in
-    filling_more rules (parts c.in-Some.rule) c.args.start c.args.out.now c.args.at c.loop-i.i c.loop-i.skip out end c.fill-letter-end.new.out c.fill-letter-end.result s.fit c.loop-i.invariant lt
-    c.fill-letter-end.auto.out
-    (subst (λ a. Put out end (as_text (take (length out - end) (drop c.loop-i.skip (spell rules a)))) c.fill-letter-end.new.out c.fill-letter-end.result) part c.fill-letter-end.ensures)
+    filling_more rules (parts c.in-Some.rule) c.args.start c.args.out.now c.args.at c.loop-i.i c.loop-i.skip out end c.fill_letter-end.new.out c.fill_letter-end.result s.fit c.loop-i.invariant lt
+    c.fill_letter-end.auto.out
+    (subst (λ a. Put out end (as_text (take (length out - end) (drop c.loop-i.skip (spell rules a)))) c.fill_letter-end.new.out c.fill_letter-end.result) part c.fill_letter-end.ensures)
 
-pub overflow-cast-out : goal.overflow-cast-out
-overflow-cast-out t c =
+pub overflow_cast-out : goal.overflow_cast-out
+overflow_cast-out t c =
     let basic : c.args.letter < 26 = no_rule_basic (rules_of c.args.letters.now) c.args.letter (sym c.in-None.ensures) c.requires.known in
     omega arith
 
-pub overflow-add-out : goal.overflow-add-out
-overflow-add-out t c =
+pub overflow_add-out : goal.overflow_add-out
+overflow_add-out t c =
     let basic : c.args.letter < 26 = no_rule_basic (rules_of c.args.letters.now) c.args.letter (sym c.in-None.ensures) c.requires.known in
     omega arith
 
@@ -52,8 +52,8 @@ returns-else-end-out t c =
     let s = c.args.letters.now in
     made_filled (rules_of s) c.args.letter c.in-Some.rule _ _ _ _ _ _ _ s.fit (sym c.in-Some.ensures) c.loop-i.invariant (inr c.if-end-out.false)
 
-pub returns-after-loop-i : goal.returns-after-loop-i
-returns-after-loop-i t c =
+pub returns-after_loop-i : goal.returns-after_loop-i
+returns-after_loop-i t c =
     let s = c.args.letters.now in
     made_filled (rules_of s) c.args.letter c.in-Some.rule _ _ _ _ _ _ _ s.fit (sym c.in-Some.ensures) c.loop-i.invariant (inl (omega arith))
 

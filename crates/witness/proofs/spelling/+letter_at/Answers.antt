@@ -18,15 +18,15 @@ part-requires t c =
     let s = c.args.letters.now in
     made_inside (rules_of s) c.args.letter c.in-Some.rule c.args.place _ _ s.fit (sym c.in-Some.ensures) c.locate-spot.ensures c.requires.within
 
-pub letter-at-requires : goal.letter-at-requires
-letter-at-requires t c =
+pub letter_at-requires : goal.letter_at-requires
+letter_at-requires t c =
     let s = c.args.letters.now in
     let lt = made_inside (rules_of s) c.args.letter c.in-Some.rule c.args.place _ _ s.fit (sym c.in-Some.ensures) c.locate-spot.ensures c.requires.within in
     let part = part_of (rules_of s) c.args.letter c.in-Some.rule c.locate-spot.result.index c.part.result s.fit (sym c.in-Some.ensures) lt c.part.ensures in
     (omega (arith, part.lowers, c.decreases), (part.known_letter, omega (arith, c.locate-spot.ensures.inside lt, ap (λ a. length (spell (rules_of s) a)) c.part.ensures)))
 
-pub overflow-cast-result : goal.overflow-cast-result
-overflow-cast-result t c =
+pub overflow_cast-result : goal.overflow_cast-result
+overflow_cast-result t c =
     let rules = rules_of c.args.letters.now in
     let basic : c.args.letter < 26 = no_rule_basic rules c.args.letter (sym c.in-None.ensures) c.requires.known in
     omega arith
@@ -37,7 +37,7 @@ returns-in-Some t c =
     let rules = rules_of s in
     let row = row_of rules c.args.letter c.in-Some.rule s.fit (sym c.in-Some.ensures) in
     let lt = made_inside rules c.args.letter c.in-Some.rule c.args.place _ _ s.fit (sym c.in-Some.ensures) c.locate-spot.ensures c.requires.within in
-    c.letter-at.ensures
+    c.letter_at.ensures
     ∙ ap (λ a. get_or (spell rules a) c.locate-spot.result.skip 0) c.part.ensures
     ∙ sym (found_letter rules (parts c.in-Some.rule) c.args.place _ _ c.locate-spot.ensures lt)
     ∙ ap (λ w. get_or w c.args.place 0) (sym row.spells)

@@ -5,10 +5,12 @@ use Rattle.stand.specs.Holding.{standing_of}
 use Rattle.check.proofs.Runs.{choice_more, some_choice_more}
 use Rattle.check.proofs.store.Check.choose.Goals as goal
 
-pub invariant-of-self : goal.invariant-of-self
-invariant-of-self c =
+pub invariant_of-self : goal.invariant_of-self
+invariant_of-self c =
     let old = c.args.self.now in
-    (some_choice_more c.args.choice (standing_of old.stand) (standing_of c.choose.new.self) old.system old.run c.choose.ensures.stands, tt)
+    record {
+      run = some_choice_more c.args.choice (standing_of old.stand) (standing_of c.choose.new.self) old.system old.run c.choose.ensures.stands;
+    }
 
 pub returns : goal.returns
 returns c =

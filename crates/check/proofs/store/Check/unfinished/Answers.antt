@@ -25,28 +25,28 @@ returns-in-Some c =
     let s : Check = c.args.self.now in
     let S : Standing = standing s in
     let fits : fresh S ≤ c.args.room = omega (arith, c.if-room-rules.false, length-reverse c.rules.result.now, ap length c.rules.ensures) in
-    let o = c.first-live.result in
-    let h : First o (live S) = subst (λ E. First o (stands_in E)) c.sides-sides.ensures c.first-live.ensures in
+    let o = c.first_live.result in
+    let h : First o (live S) = subst (λ E. First o (stands_in E)) c.sides-sides.ensures c.first_live.ensures in
     record { reason = by_live S c.args.room fits o (lives s o h) c.in-Some.x c.in-Some.is; untouched = refl; suffices = λ _. fits }
 
-pub returns-in-Some-first-unequal : goal.returns-in-Some-first-unequal
-returns-in-Some-first-unequal c =
+pub returns-in-Some-first_unequal : goal.returns-in-Some-first_unequal
+returns-in-Some-first_unequal c =
     let s : Check = c.args.self.now in
     let S : Standing = standing s in
     let fits : fresh S ≤ c.args.room = omega (arith, c.if-room-rules.false, length-reverse c.rules.result.now, ap length c.rules.ensures) in
-    let o = c.first-live.result in
-    let k = c.first-unequal.result in
-    let h : First o (live S) = subst (λ E. First o (stands_in E)) c.sides-sides.ensures c.first-live.ensures in
-    let d : FirstUnequal k S.equations = subst (FirstUnequal k) c.sides-sides.ensures c.first-unequal.ensures in
-    record { reason = by_sides S c.args.room fits o (lives s o h) (Some c.in-Some-first-unequal.i) c.in-default.is (differing_is S.equations k d ∙ c.in-Some-first-unequal.is); untouched = refl; suffices = λ _. fits }
+    let o = c.first_live.result in
+    let k = c.first_unequal.result in
+    let h : First o (live S) = subst (λ E. First o (stands_in E)) c.sides-sides.ensures c.first_live.ensures in
+    let d : FirstUnequal k S.equations = subst (FirstUnequal k) c.sides-sides.ensures c.first_unequal.ensures in
+    record { reason = by_sides S c.args.room fits o (lives s o h) (Some c.in-Some-first_unequal.i) c.in_default.is (differing_is S.equations k d ∙ c.in-Some-first_unequal.is); untouched = refl; suffices = λ _. fits }
 
 pub returns-in-None : goal.returns-in-None
 returns-in-None c =
     let s : Check = c.args.self.now in
     let S : Standing = standing s in
     let fits : fresh S ≤ c.args.room = omega (arith, c.if-room-rules.false, length-reverse c.rules.result.now, ap length c.rules.ensures) in
-    let o = c.first-live.result in
-    let k = c.first-unequal.result in
-    let h : First o (live S) = subst (λ E. First o (stands_in E)) c.sides-sides.ensures c.first-live.ensures in
-    let d : FirstUnequal k S.equations = subst (FirstUnequal k) c.sides-sides.ensures c.first-unequal.ensures in
-    record { reason = by_sides S c.args.room fits o (lives s o h) None c.in-default.is (differing_is S.equations k d ∙ c.in-None.is); untouched = tt; suffices = λ _. fits }
+    let o = c.first_live.result in
+    let k = c.first_unequal.result in
+    let h : First o (live S) = subst (λ E. First o (stands_in E)) c.sides-sides.ensures c.first_live.ensures in
+    let d : FirstUnequal k S.equations = subst (FirstUnequal k) c.sides-sides.ensures c.first_unequal.ensures in
+    record { reason = by_sides S c.args.room fits o (lives s o h) None c.in_default.is (differing_is S.equations k d ∙ c.in-None.is); untouched = tt; suffices = λ _. fits }

@@ -5,10 +5,12 @@ use Rattle.stand.specs.Holding.{standing_of}
 use Rattle.check.proofs.Runs.{load_more, some_load_more}
 use Rattle.check.proofs.store.System.load.Goals as goal
 
-pub invariant-of-self : goal.invariant-of-self
-invariant-of-self c =
+pub invariant_of-self : goal.invariant_of-self
+invariant_of-self c =
     let old = c.args.self.now in
-    (some_load_more c.args.left.now c.args.right.now (standing_of old.stand) (standing_of c.load.new.self) old.run c.load.ensures.stands, tt)
+    record {
+      run = some_load_more c.args.left.now c.args.right.now (standing_of old.stand) (standing_of c.load.new.self) old.run c.load.ensures.stands;
+    }
 
 pub returns : goal.returns
 returns c =

@@ -1,5 +1,7 @@
 use Rattle.std.proofs.Common.{[]}
 use Rattle.check.proofs.store.System.new.Goals as goal
 
-pub invariant-of-result : goal.invariant-of-result
-invariant-of-result c = (∣ ([], c.in-ok-stand.ensures) ∣₁, tt)
+pub invariant_of-result : goal.invariant_of-result
+invariant_of-result c = record {
+  run = ∣ ([], c.in_ok-stand.ensures) ∣₁;
+}

@@ -5,11 +5,13 @@ use Rattle.stand.specs.Holding.{standing_of}
 use Rattle.check.proofs.Runs.{opening_run, some_opening}
 use Rattle.check.proofs.store.System.open.Goals as goal
 
-pub invariant-of-result : goal.invariant-of-result
-invariant-of-result c =
+pub invariant_of-result : goal.invariant_of-result
+invariant_of-result c =
     let s = c.args.self in
     let S : Standing = standing_of s.stand in
-    (some_opening S c.variables-system.result s.run (λ x low. c.variables-system.ensures x low ∙ ap (λ E. stands_in E x) c.sides.ensures), tt)
+    record {
+      run = some_opening S c.variables-system.result s.run (λ x low. c.variables-system.ensures x low ∙ ap (λ E. stands_in E x) c.sides.ensures);
+    }
 
 pub returns : goal.returns
 returns c =

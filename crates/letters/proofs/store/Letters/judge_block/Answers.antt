@@ -8,8 +8,8 @@ use Rattle.letters.specs.Holding.{rules_of}
 use Rattle.letters.proofs.Judging.{known_length, judged}
 use Rattle.letters.proofs.store.Letters.judge_block.Goals as goal
 
-pub overflow-mul-from : goal.overflow-mul-from
-overflow-mul-from c =
+pub overflow_mul-from : goal.overflow_mul-from
+overflow_mul-from c =
     let s = c.args.self.now in
     let few : c.from.result ≤ 1000000 = omega arith in
     let short : c.in-Some.one ≤ 1000000000000 = omega (arith, known_length (rules_of s) c.args.a c.in-Some.one c.in-Some.ensures, spell_short (rules_of s) s.fit c.args.a) in

@@ -7,8 +7,8 @@ use Rattle.letters.specs.Holding.{rules_of}
 use Rattle.letters.proofs.Judging.{known_length, judged}
 use Rattle.letters.proofs.store.Letters.judge_pair.Goals as goal
 
-pub overflow-add-first : goal.overflow-add-first
-overflow-add-first c =
+pub overflow_add-first : goal.overflow_add-first
+overflow_add-first c =
     let s = c.args.self.now in
     omega (
       arith,

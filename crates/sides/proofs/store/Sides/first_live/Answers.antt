@@ -8,5 +8,5 @@ use Rattle.sides.proofs.store.Sides.first_live.Goals as goal
 pub returns : goal.returns
 returns c =
     let s = c.args.self.now in
-    let found = c.least-variable.ensures ∙ ap (least_of None) c.deref.ensures.value in
+    let found = c.least_variable.ensures ∙ ap (least_of None) c.deref.ensures.value in
     subst (λ o. First o (stands_in (equations_of s))) (sym found) (first_live (vec_items s.marks) s.whole)

@@ -6,36 +6,36 @@ use Rattle.sides.specs.Holding.{equations_of, only}
 use Rattle.sides.proofs.Keeps.{places_loaded}
 use Rattle.sides.proofs.store.Sides.load.Goals as goal
 
-pub returns-then-not-is-text : goal.returns-then-not-is-text
-returns-then-not-is-text c =
+pub returns-then-not-is_text : goal.returns-then-not-is_text
+returns-then-not-is_text c =
     let l = c.args.left.now in
     let r = c.args.right.now in
-    let bad : (readable l && readable r) ≡ false = and_left (readable l) (readable r) (sym c.if-not-is-text.ensures) in
+    let bad : (readable l && readable r) ≡ false = and_left (readable l) (readable r) (sym c.if-not-is_text.ensures) in
     (simp bad, refl)
 
-pub returns-then-not-is-text-2 : goal.returns-then-not-is-text-2
-returns-then-not-is-text-2 c =
+pub returns-then-not-is_text-2 : goal.returns-then-not-is_text-2
+returns-then-not-is_text-2 c =
     let l = c.args.left.now in
     let r = c.args.right.now in
-    let bad : (readable l && readable r) ≡ false = and_right (readable l) (readable r) (sym c.if-not-is-text-2.ensures) in
+    let bad : (readable l && readable r) ≡ false = and_right (readable l) (readable r) (sym c.if-not-is_text-2.ensures) in
     (simp bad, refl)
 
-pub returns-then-self-ge-MOST-EQUATIONS : goal.returns-then-self-ge-MOST-EQUATIONS
-returns-then-self-ge-MOST-EQUATIONS c =
+pub returns-then-self-ge-MOST_EQUATIONS : goal.returns-then-self-ge-MOST_EQUATIONS
+returns-then-self-ge-MOST_EQUATIONS c =
     let s = c.args.self.now in
     let l = c.args.left.now in
     let r = c.args.right.now in
-    let good : (readable l && readable r) ≡ true = and_from (readable l) (readable r) (sym c.if-not-is-text.ensures) (sym c.if-not-is-text-2.ensures) in
+    let good : (readable l && readable r) ≡ true = and_from (readable l) (readable r) (sym c.if-not-is_text.ensures) (sym c.if-not-is_text-2.ensures) in
     let full : leb 32 (length (equations_of s)) ≡ true = le-leb 32 (length (equations_of s)) (omega (arith, s.counted)) in
     (simp (good, full), refl)
 
-pub returns-then-saturating-add-gt-MOST-LOADED : goal.returns-then-saturating-add-gt-MOST-LOADED
-returns-then-saturating-add-gt-MOST-LOADED c =
+pub returns-then-saturating_add-gt-MOST_LOADED : goal.returns-then-saturating_add-gt-MOST_LOADED
+returns-then-saturating_add-gt-MOST_LOADED c =
     let s = c.args.self.now in
     let l = c.args.left.now in
     let r = c.args.right.now in
-    let read_l = sym c.if-not-is-text.ensures in
-    let read_r = sym c.if-not-is-text-2.ensures in
+    let read_l = sym c.if-not-is_text.ensures in
+    let read_r = sym c.if-not-is_text-2.ensures in
     let then = places (loaded_too (only (equations_of s)) l r).equations in
     let good : (readable l && readable r) ≡ true = and_from (readable l) (readable r) read_l read_r in
     let few : leb 32 (length (equations_of s)) ≡ false = lt-leb 32 (length (equations_of s)) (omega (arith, s.counted)) in
@@ -50,8 +50,8 @@ returns c =
     let s = c.args.self.now in
     let l = c.args.left.now in
     let r = c.args.right.now in
-    let read_l = sym c.if-not-is-text.ensures in
-    let read_r = sym c.if-not-is-text-2.ensures in
+    let read_l = sym c.if-not-is_text.ensures in
+    let read_r = sym c.if-not-is_text-2.ensures in
     let then = places (loaded_too (only (equations_of s)) l r).equations in
     let good : (readable l && readable r) ≡ true = and_from (readable l) (readable r) read_l read_r in
     let few : leb 32 (length (equations_of s)) ≡ false = lt-leb 32 (length (equations_of s)) (omega (arith, s.counted)) in

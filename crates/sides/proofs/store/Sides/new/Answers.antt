@@ -3,12 +3,17 @@ use Rattle.sides.specs.Marks.{Whole, equations_in}
 use Rattle.sides.proofs.Flat.{none_hold, none_whole}
 use Rattle.sides.proofs.store.Sides.new.Goals as goal
 
-pub invariant-of-result : goal.invariant-of-result
-invariant-of-result c =
-    let made = c.in-ok-marks.ensures.made in (
-      subst Whole (sym made.0) none_whole,
-      (sym (ap (λ t. length (equations_in t)) made.0 ∙ ap length none_hold), (omega arith, (omega (arith, made.1), (omega (arith, made.1.1), (omega (arith, c.in-ok-spare.ensures.capacity), tt))))),
-    )
+pub invariant_of-result : goal.invariant_of-result
+invariant_of-result c =
+    let made = c.in_ok-marks.ensures.made in
+    record {
+      whole = subst Whole (sym made.0) none_whole;
+      counted = sym (ap (λ t. length (equations_in t)) made.0 ∙ ap length none_hold);
+      few = omega arith;
+      short = omega (arith, made.1);
+      room = omega (arith, made.1.1);
+      beside = omega (arith, c.in_ok-spare.ensures.capacity);
+    }
 
 pub returns : goal.returns
-returns c = ap equations_in c.in-ok-marks.ensures.items ∙ none_hold
+returns c = ap equations_in c.in_ok-marks.ensures.items ∙ none_hold

@@ -10,13 +10,13 @@ use Rattle.sides.proofs.store.Sides.replace_variable.Goals as goal
 use Rattle.sides.proofs.store.Sides.replace_variable.Goals.{After-swap}
 
 after : (c : After-swap) → (equations_in (vec_items c.swap.new.x) ≡ on_sides (swap c.args.x c.args.row.now) (equations_of c.args.self.now)) × Whole (vec_items c.swap.new.x)
-after c = swap_holds c.args.x c.args.row.now (vec_items c.args.self.now.marks) (vec_items c.swap.new.x) c.args.self.now.whole (ap vec_items c.swap.ensures.x-after ∙ c.put-swapped.ensures.items ∙ ap (mark_swap c.args.x c.args.row.now) c.deref.ensures.value)
+after c = swap_holds c.args.x c.args.row.now (vec_items c.args.self.now.marks) (vec_items c.swap.new.x) c.args.self.now.whole (ap vec_items c.swap.ensures.x-after ∙ c.put_swapped.ensures.items ∙ ap (mark_swap c.args.x c.args.row.now) c.deref.ensures.value)
 
-pub overflow-sub-kept : goal.overflow-sub-kept
-overflow-sub-kept c = omega (arith, c.count-count.ensures.replaced [], c.len.ensures.value)
+pub overflow_sub-kept : goal.overflow_sub-kept
+overflow_sub-kept c = omega (arith, c.count-count.ensures.replaced [], c.len.ensures.value)
 
-pub returns-then-saturating-add-gt-MOST-PLACES : goal.returns-then-saturating-add-gt-MOST-PLACES
-returns-then-saturating-add-gt-MOST-PLACES c =
+pub returns-then-saturating_add-gt-MOST_PLACES : goal.returns-then-saturating_add-gt-MOST_PLACES
+returns-then-saturating_add-gt-MOST_PLACES c =
     let s = c.args.self.now in
     let v = c.args.row.now in
     let then = places (on_sides (swap c.args.x v) (equations_of s)) in
@@ -26,8 +26,8 @@ returns-then-saturating-add-gt-MOST-PLACES c =
 fits : (c : After-swap) → places (on_sides (swap c.args.x c.args.row.now) (equations_of c.args.self.now)) ≤ 2048
 fits c = omega (arith, c.count-count.ensures.replaced c.args.row.now, c.count-count.ensures.replaced [], c.len.ensures.value)
 
-pub put-swapped-requires : goal.put-swapped-requires
-put-swapped-requires c =
+pub put_swapped-requires : goal.put_swapped-requires
+put_swapped-requires c =
     let s = c.args.self.now in
     let ms = vec_items s.marks in
     let v = c.args.row.now in
@@ -35,23 +35,19 @@ put-swapped-requires c =
     let e = swap_holds c.args.x v ms (f ms) s.whole refl in
     omega (arith, still_long (swap c.args.x v) ms (f ms) s.number e s.counted, ap (λ t. length (f t)) c.deref.ensures.value, s.few, s.beside, c.count-count.ensures.replaced v, c.count-count.ensures.replaced [], c.len.ensures.value)
 
-pub invariant-of-self : goal.invariant-of-self
-invariant-of-self c =
+pub invariant_of-self : goal.invariant_of-self
+invariant_of-self c =
     let s = c.args.self.now in
     let e = after c in
-    let n = still_counted (swap c.args.x c.args.row.now) (vec_items s.marks) (vec_items c.swap.new.x) s.number e s.counted in (
-      e.1,
-      (
-        n,
-        (
-          s.few,
-          (
-            omega (arith, still_long (swap c.args.x c.args.row.now) (vec_items s.marks) (vec_items c.swap.new.x) s.number e s.counted, fits c, ap vec_len c.swap.ensures.x-after, c.swap.new.x.ok.0),
-            (omega (arith, ap vec_capacity c.swap.ensures.x-after, c.put-swapped.ensures.capacity, s.beside), (omega (arith, ap vec_capacity c.swap.ensures.y-after, s.room), tt)),
-          ),
-        ),
-      ),
-    )
+    let n = still_counted (swap c.args.x c.args.row.now) (vec_items s.marks) (vec_items c.swap.new.x) s.number e s.counted in
+    record {
+      whole = e.1;
+      counted = n;
+      few = s.few;
+      short = omega (arith, still_long (swap c.args.x c.args.row.now) (vec_items s.marks) (vec_items c.swap.new.x) s.number e s.counted, fits c, ap vec_len c.swap.ensures.x-after, c.swap.new.x.ok.0);
+      room = omega (arith, ap vec_capacity c.swap.ensures.x-after, c.put_swapped.ensures.capacity, s.beside);
+      beside = omega (arith, ap vec_capacity c.swap.ensures.y-after, s.room);
+    }
 
 pub returns : goal.returns
 returns c =

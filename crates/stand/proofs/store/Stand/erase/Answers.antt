@@ -19,7 +19,7 @@ returns c =
     let some : 0 < c.count.result = omega arith in
     let alive : live S x ≡ true = c.count.ensures.live ∙ lt-ltb 0 c.count.result some in
     let fewer : places (on_sides (swap x []) S.equations) ≤ 2048 = omega (arith, c.count.ensures.replaced [], few_places s.sides) in
-    let done : c.replace-variable.result ≡ true = c.replace-variable.ensures.answer ∙ le-leb (places (on_sides (swap x []) S.equations)) 2048 fewer in
-    let erased : equations_of c.replace-variable.new.self ≡ on_sides (swap x []) S.equations = c.replace-variable.ensures.replaced ∙ ap (λ b. cond b (on_sides (swap x []) S.equations) S.equations) done in
+    let done : c.replace_variable.result ≡ true = c.replace_variable.ensures.answer ∙ le-leb (places (on_sides (swap x []) S.equations)) 2048 fewer in
+    let erased : equations_of c.replace_variable.new.self ≡ on_sides (swap x []) S.equations = c.replace_variable.ensures.replaced ∙ ap (λ b. cond b (on_sides (swap x []) S.equations) S.equations) done in
     let none : choice_refusal S (Erase x) ≡ None = not_refused S x alive in
     record { refusal = sym none; stands = takes S _ (Erase x) none erased refl (sym (append-nil S.pops)) }

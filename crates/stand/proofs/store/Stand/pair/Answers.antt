@@ -12,11 +12,11 @@ returns c =
     let S : Standing = standing_of c.args.self.now in
     let a = c.args.a in
     let b = c.args.b in
-    let none : choice_refusal S (Pair a b) ≡ None = sym c.in-ok-new.ensures.refusal in
-    let made = c.in-ok-new.ensures.stands in
+    let none : choice_refusal S (Pair a b) ≡ None = sym c.in_ok-new.ensures.refusal in
+    let made = c.in_ok-new.ensures.stands in
     record {
       refusal = sym none;
       stands = takes S _ (Pair a b) none
-          (c.replace_pairs.ensures ∙ λ i. on_sides (side_pairs a b (c.in-ok-new.ensures.letter i)) (made i).equations)
+          (c.replace_pairs.ensures ∙ λ i. on_sides (side_pairs a b (c.in_ok-new.ensures.letter i)) (made i).equations)
           (ap (λ T. T.rules) made) (ap (λ T. T.pops) made ∙ sym (append-nil S.pops));
     }

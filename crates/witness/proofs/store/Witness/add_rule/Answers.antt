@@ -17,25 +17,16 @@ still_counted : (old new : List Rule) (rule : Rule) (letters : Word) (ends : Lis
 still_counted old new rule letters ends (Ok u) h low counted = subst (λ rules. Counted rules letters ends) (sym h.1) (counted_rule rule old letters ends low counted)
 still_counted old new rule letters ends (Err e) h low counted = subst (λ rules. Counted rules letters ends) (sym h.1) counted
 
-pub invariant-of-self : goal.invariant-of-self
-invariant-of-self c =
+pub invariant_of-self : goal.invariant_of-self
+invariant_of-self c =
     let s = c.args.self.now in
-    let low = letters_known (rules_of s.made) (reverse s.seats.items) s.letters.items s.whole s.fit in (
-      s.room,
-      (
-        s.level,
-        (
-          s.along,
-          (
-            s.beside,
-            (
-              s.whole,
-              (
-                still_fits (rules_of s.made) (rules_of c.add.new.self) c.args.rule (entries (reverse s.seats.items) s.letters.items) c.add.result c.add.ensures s.fit,
-                (still_counted (rules_of s.made) (rules_of c.add.new.self) c.args.rule s.letters.items s.ends.items c.add.result c.add.ensures low s.counted, tt),
-              ),
-            ),
-          ),
-        ),
-      ),
-    )
+    let low = letters_known (rules_of s.made) (reverse s.seats.items) s.letters.items s.whole s.fit in
+    record {
+      room = s.room;
+      level = s.level;
+      along = s.along;
+      beside = s.beside;
+      whole = s.whole;
+      fit = still_fits (rules_of s.made) (rules_of c.add.new.self) c.args.rule (entries (reverse s.seats.items) s.letters.items) c.add.result c.add.ensures s.fit;
+      counted = still_counted (rules_of s.made) (rules_of c.add.new.self) c.args.rule s.letters.items s.ends.items c.add.result c.add.ensures low s.counted;
+    }

@@ -11,8 +11,8 @@ use Rattle.witness.proofs.store.Witness.least.Goals as goal
 found : (seats items : List Seat) (seat : Seat) → items ≡ seats → 0 < length items → seat ≡ get_or items (length items - 1) seat → (0 < length seats) × (seat ≡ get_or seats (length seats - 1) seat)
 found seats items seat e some is = subst (λ l. (0 < length l) × (seat ≡ get_or l (length l - 1) seat)) e (some, is)
 
-pub overflow-add-result : goal.overflow-add-result
-overflow-add-result c =
+pub overflow_add-result : goal.overflow_add-result
+overflow_add-result c =
     let s = c.args.self.now in
     let seat = c.in-Some.seat.now in
     let item = c.in-Some.ensures.item in

@@ -5,8 +5,8 @@ use Rattle.witness.specs.Holding.{contents_of}
 use Rattle.witness.proofs.Counting.{length_answered, length_between}
 use Rattle.witness.proofs.store.Witness.length.Goals as goal
 
-pub overflow-sub-result : goal.overflow-sub-result
-overflow-sub-result c =
+pub overflow_sub-result : goal.overflow_sub-result
+overflow_sub-result c =
     let s = c.args.self.now in
     let span = c.in-Some.field-0 in
     omega (arith, c.upto.ensures, c.upto-in-Some.ensures, length_between (rules_of s.made) s.letters.items span.start span.end c.in-Some.ensures.within.0)

@@ -6,14 +6,14 @@ use Rattle.witness.specs.Holding.{contents_of}
 use Rattle.witness.proofs.Counting.{length_between, letters_known, past_answered, letter_answered, index_there, letter_there}
 use Rattle.witness.proofs.store.Witness.letter.Goals as goal
 
-pub overflow-sub-upto : goal.overflow-sub-upto
-overflow-sub-upto c =
+pub overflow_sub-upto : goal.overflow_sub-upto
+overflow_sub-upto c =
     let s = c.args.self.now in
     let span = c.in-Some.field-0 in
     omega (arith, c.upto.ensures, c.upto-before.ensures, length_between (rules_of s.made) s.letters.items span.start span.end c.in-Some.ensures.within.0)
 
-pub overflow-add-before : goal.overflow-add-before
-overflow-add-before c = omega (arith, c.upto.type-inv)
+pub overflow_add-before : goal.overflow_add-before
+overflow_add-before c = omega (arith, c.upto.type_inv)
 
 pub returns-then-place-upto : goal.returns-then-place-upto
 returns-then-place-upto c =
@@ -33,8 +33,8 @@ index-requires c =
       s.letters.ok.0,
     )
 
-pub letter-at-requires : goal.letter-at-requires
-letter-at-requires c =
+pub letter_at-requires : goal.letter_at-requires
+letter_at-requires c =
     let s = c.args.self.now in
     let rules = rules_of s.made in
     let span = c.in-Some.field-0 in
@@ -52,6 +52,6 @@ returns c =
     let inside = index_there rules s.letters.items span.start span.end c.in-Some.ensures.within.0 o c.in-Some.ensures.word c.args.place c.upto.result c.upto-before.result c.search-spot.result.index c.search-spot.result.skip c.in-Some.ensures.within.1 c.upto.ensures c.upto-before.ensures c.if-place-upto.false c.search-spot.ensures in
     let found = letter_there rules s.letters.items span.start span.end c.in-Some.ensures.within.0 o c.in-Some.ensures.word (c.upto-before.result + c.args.place) c.search-spot.result.index c.search-spot.result.skip c.index.result.now c.in-Some.ensures.within.1 (letters_known rules (reverse s.seats.items) s.letters.items s.whole s.fit) inside c.search-spot.ensures c.index.ensures in
     record {
-      answer = letter_answered rules s.letters.items span.start span.end c.in-Some.ensures.within.0 o c.in-Some.ensures.word c.args.place c.upto.result c.upto-before.result c.search-spot.result.index c.search-spot.result.skip c.letter-at.result c.upto.ensures c.upto-before.ensures c.if-place-upto.false c.search-spot.ensures (c.letter-at.ensures ∙ ap (λ a. get_or (spell rules a) c.search-spot.result.skip 0) found.0);
+      answer = letter_answered rules s.letters.items span.start span.end c.in-Some.ensures.within.0 o c.in-Some.ensures.word c.args.place c.upto.result c.upto-before.result c.search-spot.result.index c.search-spot.result.skip c.letter_at.result c.upto.ensures c.upto-before.ensures c.if-place-upto.false c.search-spot.ensures (c.letter_at.ensures ∙ ap (λ a. get_or (spell rules a) c.search-spot.result.skip 0) found.0);
       number = tt;
     }

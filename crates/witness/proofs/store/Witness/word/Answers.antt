@@ -5,4 +5,4 @@ use Rattle.witness.proofs.store.Witness.word.Goals as goal
 pub returns-in-Some : goal.returns-in-Some
 returns-in-Some c =
     let span = c.in-Some.field-0 in
-    ap (λ l. Some (take (span.end - span.start) (drop span.start l))) c.as-slice.ensures.value ∙ ap Some (between_is c.args.self.now.letters.items span.start span.end) ∙ c.in-Some.ensures.word
+    ap (λ l. Some (take (span.end - span.start) (drop span.start l))) c.as_slice.ensures.value ∙ ap Some (between_is c.args.self.now.letters.items span.start span.end) ∙ c.in-Some.ensures.word
