@@ -13,7 +13,7 @@ use model::Rule;
 
 // The value of a letter in a table, or the empty value past the table.
 fn value_at<K: Measure>(kind: &K, table: &[K::Value], letter: u16) -> K::Value
-    ensures { result ≡ slice_index_or table.now letter (nothing kind.now) }
+    ensures { result ≡ slice_index_or table.now letter (K.nothing kind.now) }
 {
     let place = letter as usize;
     if place < table.len() {
@@ -25,8 +25,8 @@ fn value_at<K: Measure>(kind: &K, table: &[K::Value], letter: u16) -> K::Value
 
 // The value of a word, where the table has the values of its letters. Over a filled table it is the value of what the word spells.
 pub fn word_value<K: Measure>(kind: &K, table: &[K::Value], word: &[u16]) -> K::Value
-    ensures by_table { result ≡ table_value (nothing kind.now) (joined kind.now) table.now word.now }
-    ensures by_spelling { let k = kind.now in (rules : List Rule) → Filled (single k) (nothing k) (joined k) rules table.now → All (λ a. a < known rules) word.now → result ≡ word_value (single k) (nothing k) (joined k) (spell_word rules word.now) }
+    ensures by_table { result ≡ table_value (K.nothing kind.now) (K.joined kind.now) table.now word.now }
+    ensures by_spelling { let k = kind.now in (rules : List Rule) → Filled (K.single k) (K.nothing k) (K.joined k) rules table.now → All (λ a. a < known rules) word.now → result ≡ word_value (K.single k) (K.nothing k) (K.joined k) (spell_word rules word.now) }
 {
     let mut value = kind.empty();
     for letter in word {
@@ -37,7 +37,7 @@ pub fn word_value<K: Measure>(kind: &K, table: &[K::Value], word: &[u16]) -> K::
 
 // A value joined `count` times, by repeated squaring: a count of 1,000,000 takes fewer than 30 joins.
 pub fn power<K: Measure>(kind: &K, value: K::Value, count: u32) -> K::Value
-    ensures { result ≡ times (nothing kind.now) (joined kind.now) count value }
+    ensures { result ≡ times (K.nothing kind.now) (K.joined kind.now) count value }
 {
     let mut done = kind.empty();
     let mut square = value;
@@ -54,7 +54,7 @@ pub fn power<K: Measure>(kind: &K, value: K::Value, count: u32) -> K::Value
 
 // The value of what a rule makes, where the table has the values of its letters.
 fn rule_value<K: Measure>(kind: &K, table: &[K::Value], rule: Rule) -> K::Value
-    ensures { let k = kind.now in result ≡ rule_value (λ a. get_or table.now a (nothing k)) (nothing k) (joined k) rule }
+    ensures { let k = kind.now in result ≡ rule_value (λ a. get_or table.now a (K.nothing k)) (K.nothing k) (K.joined k) rule }
 {
     match rule {
         Rule::Pair(a, b) => kind.join(value_at(kind, table, a), value_at(kind, table, b)),
@@ -97,7 +97,7 @@ fn can_fill(rules: &[Rule], size: usize) -> bool
 // Puts the value of each of a to z into the table.
 fn fill_letters<K: Measure>(kind: &K, table: &mut [K::Value])
     requires { 26 ≤ length table.old }
-    ensures letters { (a : ℕ) → a < 26 → slice_index_or table.new a (nothing kind.now) ≡ single kind.now a }
+    ensures letters { (a : ℕ) → a < 26 → slice_index_or table.new a (K.nothing kind.now) ≡ K.single kind.now a }
     ensures rest { drop 26 table.new ≡ drop 26 table.old }
 {
     for number in 0..LETTERS as u8 {
@@ -112,7 +112,7 @@ fn fill_letters<K: Measure>(kind: &K, table: &mut [K::Value])
 // where the table has no room for them or a rule is made of letters that are not known before it.
 pub fn fill_values<K: Measure>(kind: &K, rules: &[Rule], table: &mut [K::Value]) -> bool
     ensures taken { result ≡ fillable (reverse rules.now) (length table.old) }
-    ensures filled { let k = kind.now in result ≡ true → Filled (single k) (nothing k) (joined k) (reverse rules.now) table.new }
+    ensures filled { let k = kind.now in result ≡ true → Filled (K.single k) (K.nothing k) (K.joined k) (reverse rules.now) table.new }
     ensures rest { drop (26 + length rules.now) table.new ≡ drop (26 + length rules.now) table.old }
     ensures refused { result ≡ false → table.new ≡ table.old }
 {

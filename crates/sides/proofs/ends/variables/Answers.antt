@@ -27,12 +27,12 @@ loop-mark-preserved c =
       | in-Some w ↦
           let at = at_some m w.in-Some.x w.in-Some.ensures in
           let inside : w.from.result < length found = omega (arith, w.from.ensures, at.0, c.loop-mark.invariant.0) in (
-            ap length w.found_is ∙ length-set found w.from.result true ∙ c.loop-mark.invariant.0,
-            λ y lt. more y lt (ap (λ f. get_or f y false) w.found_is ∙ noted found w.from.result y inside ∙ ap (λ z. get_or found y false || eqb y z) w.from.ensures ∙ ap (λ n. get_or found y false || lifted (is_variable y) n) (sym at.1)),
+            ap length w.found-is ∙ length-set found w.from.result true ∙ c.loop-mark.invariant.0,
+            λ y lt. more y lt (ap (λ f. get_or f y false) w.found-is ∙ noted found w.from.result y inside ∙ ap (λ z. get_or found y false || eqb y z) w.from.ensures ∙ ap (λ n. get_or found y false || lifted (is_variable y) n) (sym at.1)),
           )
       | in-None w ↦ (
-        ap length w.found_is ∙ c.loop-mark.invariant.0,
-        λ y lt. more y lt (ap (λ f. get_or f y false) w.found_is ∙ or_none (get_or found y false) ∙ ap (λ b. get_or found y false || b) (sym (at_none m y lt w.in-None.ensures))),
+        ap length w.found-is ∙ c.loop-mark.invariant.0,
+        λ y lt. more y lt (ap (λ f. get_or f y false) w.found-is ∙ or_none (get_or found y false) ∙ ap (λ b. get_or found y false || b) (sym (at_none m y lt w.in-None.ensures))),
       )
     ]
 

@@ -52,8 +52,8 @@ returns-else-end-out t c =
     let s = c.args.letters.now in
     made_filled (rules_of s) c.args.letter c.in-Some.rule _ _ _ _ _ _ _ s.fit (sym c.in-Some.ensures) c.loop-i.invariant (inr c.if-end-out.false)
 
-pub returns-after_loop-i : goal.returns-after_loop-i
-returns-after_loop-i t c =
+pub returns-after-loop-i : goal.returns-after-loop-i
+returns-after-loop-i t c =
     let s = c.args.letters.now in
     made_filled (rules_of s) c.args.letter c.in-Some.rule _ _ _ _ _ _ _ s.fit (sym c.in-Some.ensures) c.loop-i.invariant (inl (omega arith))
 

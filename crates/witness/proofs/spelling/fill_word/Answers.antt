@@ -24,8 +24,8 @@ loop-i-preserved c =
     c.fill_letter-end.auto.out
     c.fill_letter-end.ensures
 
-pub returns-after_loop-i : goal.returns-after_loop-i
-returns-after_loop-i c =
+pub returns-after-loop-i : goal.returns-after-loop-i
+returns-after-loop-i c =
     let rules = rules_of c.args.letters.now in
     let w = c.args.word.now in
     let old = c.args.out.now in

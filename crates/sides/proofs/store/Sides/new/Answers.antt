@@ -5,13 +5,13 @@ use Rattle.sides.proofs.store.Sides.new.Goals as goal
 
 pub invariant_of-result : goal.invariant_of-result
 invariant_of-result c =
-    let made = c.in_ok-marks.ensures.made in
+    let made = c.in_ok-marks.ensures in
     record {
-      whole = subst Whole (sym made.0) none_whole;
-      counted = sym (ap (λ t. length (equations_in t)) made.0 ∙ ap length none_hold);
+      whole = subst Whole (sym made.items) none_whole;
+      counted = sym (ap (λ t. length (equations_in t)) made.items ∙ ap length none_hold);
       few = omega arith;
-      short = omega (arith, made.1);
-      room = omega (arith, made.1.1);
+      short = omega (arith, made.len);
+      room = omega (arith, made.capacity);
       beside = omega (arith, c.in_ok-spare.ensures.capacity);
     }
 

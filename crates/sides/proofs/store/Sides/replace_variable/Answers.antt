@@ -10,7 +10,7 @@ use Rattle.sides.proofs.store.Sides.replace_variable.Goals as goal
 use Rattle.sides.proofs.store.Sides.replace_variable.Goals.{After-swap}
 
 after : (c : After-swap) → (equations_in (vec_items c.swap.new.x) ≡ on_sides (swap c.args.x c.args.row.now) (equations_of c.args.self.now)) × Whole (vec_items c.swap.new.x)
-after c = swap_holds c.args.x c.args.row.now (vec_items c.args.self.now.marks) (vec_items c.swap.new.x) c.args.self.now.whole (ap vec_items c.swap.ensures.x-after ∙ c.put_swapped.ensures.items ∙ ap (mark_swap c.args.x c.args.row.now) c.deref.ensures.value)
+after c = swap_holds c.args.x c.args.row.now (vec_items c.args.self.now.marks) (vec_items c.swap.new.x) c.args.self.now.whole (ap vec_items c.swap.ensures.x_after ∙ c.put_swapped.ensures.items ∙ ap (mark_swap c.args.x c.args.row.now) c.deref.ensures.value)
 
 pub overflow_sub-kept : goal.overflow_sub-kept
 overflow_sub-kept c = omega (arith, c.count-count.ensures.replaced [], c.len.ensures.value)
@@ -44,9 +44,9 @@ invariant_of-self c =
       whole = e.1;
       counted = n;
       few = s.few;
-      short = omega (arith, still_long (swap c.args.x c.args.row.now) (vec_items s.marks) (vec_items c.swap.new.x) s.number e s.counted, fits c, ap vec_len c.swap.ensures.x-after, c.swap.new.x.ok.0);
-      room = omega (arith, ap vec_capacity c.swap.ensures.x-after, c.put_swapped.ensures.capacity, s.beside);
-      beside = omega (arith, ap vec_capacity c.swap.ensures.y-after, s.room);
+      short = omega (arith, still_long (swap c.args.x c.args.row.now) (vec_items s.marks) (vec_items c.swap.new.x) s.number e s.counted, fits c, ap vec_len c.swap.ensures.x_after, c.swap.new.x.ok.0);
+      room = omega (arith, ap vec_capacity c.swap.ensures.x_after, c.put_swapped.ensures.capacity, s.beside);
+      beside = omega (arith, ap vec_capacity c.swap.ensures.y_after, s.room);
     }
 
 pub returns : goal.returns
