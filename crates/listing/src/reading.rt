@@ -35,7 +35,7 @@ fn read_line(witness: &mut Witness, stage: Stage, line: &[u8]) -> Option<Stage>
 {
     match stage {
         Stage::Opening => {
-            if line == b"letter make first second" {
+            if line == b"letter make first second".as_slice() {
                 Some(Stage::Rules)
             } else {
                 None
@@ -51,7 +51,7 @@ fn read_line(witness: &mut Witness, stage: Stage, line: &[u8]) -> Option<Stage>
             }
         }
         Stage::Gap => {
-            if line == b"variable length word" {
+            if line == b"variable length word".as_slice() {
                 Some(Stage::Variables)
             } else {
                 None

@@ -50,10 +50,10 @@ fn rule_of(fields: &[u8]) -> Option<Rule>
     ensures { Reads (Within 538 (2 ^ 32)) rule_text fields.now result }
 {
     let (make, letters) = take_field(fields, b' ')?;
-    if make == b"pair" {
+    if make == b"pair".as_slice() {
         let (a, b) = pair_of(letters)?;
         Some(Rule::Pair(a, b))
-    } else if make == b"block" {
+    } else if make == b"block".as_slice() {
         let (a, count) = block_of(letters)?;
         Some(Rule::Block(a, count))
     } else {

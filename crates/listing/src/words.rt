@@ -25,7 +25,7 @@ pub(crate) fn read_word(witness: &mut Witness, field: &[u8]) -> bool
         (Worded (contents_of witness.old) field.now (contents_of witness.new))
         (NotWorded (contents_of witness.old) field.now) }
 {
-    if field == b"-" {
+    if field == b"-".as_slice() {
         return true;
     }
     let mut rest = field;

@@ -8,8 +8,8 @@ use Rattle.format.proofs.Lengths.{rule_length}
 use Rattle.listing.proofs.Texts.{rule_parts}
 use Rattle.listing.proofs.printing.put_block.Goals as goal
 
-pub put-letter_name-requires : goal.put-letter_name-requires
-put-letter_name-requires c = omega (arith, rule_length (letter_name c.args.made) (codes " block ") (letter_name c.args.a) (decimal c.args.count))
+pub put_letter-name-requires : goal.put_letter-name-requires
+put_letter-name-requires c = omega (arith, rule_length (letter_name c.args.made) (codes " block ") (letter_name c.args.a) (decimal c.args.count))
 
 pub put_bytes-make-requires : goal.put_bytes-make-requires
 put_bytes-make-requires c = omega (arith, rule_length (letter_name c.args.made) (codes " block ") (letter_name c.args.a) (decimal c.args.count))
@@ -30,4 +30,4 @@ pub returns : goal.returns
 returns c =
     subst (λ bs. Put c.args.out.now c.args.at bs c.put_bytes.new.out c.put_bytes.result) (ap (λ n. rule_line c.args.made (Block c.args.a n) ++ 10 ∷ []) c.from.ensures)
     (subst (λ bs. Put c.args.out.now c.args.at bs c.put_bytes.new.out c.put_bytes.result) (rule_parts (letter_name c.args.made) (codes " block ") (letter_name c.args.a) (decimal c.from.result))
-    (put_then c.put-letter_name.ensures (put_then c.put_bytes-make.ensures (put_then c.put_letter-first.ensures (put_then c.put_bytes-gap.ensures (put_then c.put_number-second.ensures c.put_bytes.ensures))))))
+    (put_then c.put_letter-name.ensures (put_then c.put_bytes-make.ensures (put_then c.put_letter-first.ensures (put_then c.put_bytes-gap.ensures (put_then c.put_number-second.ensures c.put_bytes.ensures))))))

@@ -14,7 +14,7 @@ use Rattle.std.proofs.lemmas.Bool.Decides.{Decides-eqb}
 pub returns-then-eq : goal.returns-then-eq
 returns-then-eq c =
     let d = contents_of c.args.witness.now in
-    let is : c.args.line.now ≡ rule_head = (slice_eq-Decides Decides-eqb _ _ _ c.eq.ensures).0 c.if-eq.true in
+    let is : c.args.line.now ≡ rule_head = (slice_eq-Decides Decides-eqb _ _ _ c.eq.ensures).0 c.if-eq.true ∙ c.as_slice.ensures in
     subst (λ s. Led s d c.args.line.now Rules d) (sym c.in-Opening.is) (led_opening d c.args.line.now (subst (λ s. Even s d) c.in-Opening.is c.requires) is)
 
 pub returns-then-is_empty : goal.returns-then-is_empty
@@ -38,7 +38,7 @@ returns-else-read_rule c =
 pub returns-then-eq-2 : goal.returns-then-eq-2
 returns-then-eq-2 c =
     let d = contents_of c.args.witness.now in
-    let is : c.args.line.now ≡ entry_head = (slice_eq-Decides Decides-eqb _ _ _ c.eq-in-Gap.ensures).0 c.if-eq-2.true in
+    let is : c.args.line.now ≡ entry_head = (slice_eq-Decides Decides-eqb _ _ _ c.eq-in-Gap.ensures).0 c.if-eq-2.true ∙ c.as_slice-in-Gap.ensures in
     subst (λ s. Led s d c.args.line.now Variables d) (sym c.in-Gap.is) (led_gap d c.args.line.now (subst (λ s. Even s d) c.in-Gap.is c.requires) is)
 
 pub returns-then-read_entry : goal.returns-then-read_entry

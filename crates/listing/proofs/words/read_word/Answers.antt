@@ -9,7 +9,7 @@ use Rattle.std.proofs.lemmas.Bool.Decides.{Decides-eqb}
 
 pub returns-then-eq : goal.returns-then-eq
 returns-then-eq c =
-    let is : c.args.field.now ≡ 45 ∷ [] = (slice_eq-Decides Decides-eqb _ _ _ c.eq.ensures).0 c.if-eq.true in
+    let is : c.args.field.now ≡ 45 ∷ [] = (slice_eq-Decides Decides-eqb _ _ _ c.eq.ensures).0 c.if-eq.true ∙ c.as_slice.ensures in
     record { w = []; is = is; new = none_new (contents_of c.args.witness.now) }
 
 pub loop-piece-init : goal.loop-piece-init
@@ -22,7 +22,7 @@ pub returns-then-not-push_piece : goal.returns-then-not-push_piece
 returns-then-not-push_piece c =
     let cut = c.in-Some.ensures in
     no_word_piece (contents_of c.args.witness.now) c.args.field.now (contents_of c.loop-piece.witness) c.loop-piece.rest.now c.in-Some.piece.now c.in-Some.after.now (known_few c.args.witness.now)
-    (λ is. true≢false (sym ((slice_eq-Decides Decides-eqb _ _ _ c.eq.ensures).1 is) ∙ c.if-eq.false)) c.loop-piece.invariant cut.0 cut.1 c.if-not-push_piece.ensures
+    (λ is. true≢false (sym ((slice_eq-Decides Decides-eqb _ _ _ c.eq.ensures).1 (is ∙ sym c.as_slice.ensures)) ∙ c.if-eq.false)) c.loop-piece.invariant cut.0 cut.1 c.if-not-push_piece.ensures
 
 pub loop-piece-smaller : goal.loop-piece-smaller
 loop-piece-smaller c = omega (arith, ap length c.in-Some.ensures.1, length-append c.in-Some.piece.now (44 ∷ c.in-Some.after.now))
@@ -37,4 +37,4 @@ push_piece-requires-2 c = midway_some (contents_of c.args.witness.now) c.args.fi
 pub returns : goal.returns
 returns c =
     word_last (contents_of c.args.witness.now) c.args.field.now (contents_of c.loop-piece.witness) c.loop-piece.rest.now (contents_of c.push_piece-2.new.witness) c.push_piece-2.result (known_few c.args.witness.now)
-    (λ is. true≢false (sym ((slice_eq-Decides Decides-eqb _ _ _ c.eq.ensures).1 is) ∙ c.if-eq.false)) c.loop-piece.invariant c.in_default.ensures c.push_piece-2.ensures
+    (λ is. true≢false (sym ((slice_eq-Decides Decides-eqb _ _ _ c.eq.ensures).1 (is ∙ sym c.as_slice.ensures)) ∙ c.if-eq.false)) c.loop-piece.invariant c.in_default.ensures c.push_piece-2.ensures
