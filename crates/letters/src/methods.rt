@@ -1,5 +1,5 @@
 ghost use Rattle.std.specs.Prelude.{◌≡◌, ◌≤◌, [], ◌∷◌, reverse, length, IfOk, Some, None, MatchResult};
-ghost use Rattle.model.specs.Spelling.{known as count-known, rule_of};
+ghost use Rattle.model.specs.Spelling.{known as count_known, rule_of};
 ghost use Rattle.model.specs.Witnesses.{made_length, rule_refusal};
 ghost use Rattle.letters.specs.Holding.{length_of, room_for, rules_of};
 
@@ -45,7 +45,7 @@ impl Letters {
 
     // How many letters there are, a to z among them; the next rule makes the letter of this number.
     pub fn known(&self) -> u16
-        ensures value { result ≡ count-known (rules_of self.now) }
+        ensures value { result ≡ count_known (rules_of self.now) }
         ensures bound { result ≤ 538 }
     {
         26 + self.rules.len() as u16

@@ -76,7 +76,7 @@ fn witness_reply(heap: Global, witness: &Witness, request: Request) -> Result<Re
 
 // The text of a refused line.
 fn refused_reply(heap: Global, refusal: ReadRefusal) -> Result<Reply, AllocError>
-    ensures { IfOk result (λ a. (a.text.items ≡ refusal-text (read_number refusal) (refused-line refusal) (codes "-")) × (a.granted ≡ false)) }
+    ensures { IfOk result (λ a. (a.text.items ≡ refusal_text (read_number refusal) (refused_line refusal) (codes "-")) × (a.granted ≡ false)) }
 {
     let mut text = Vec::new(heap);
     let ReadRefusal::NotListing { line } = refusal;

@@ -4,8 +4,8 @@ ghost use Rattle.std.specs.Result.{result_err};
 ghost use Rattle.model.specs.Witnesses.{rule_refusal};
 ghost use Rattle.sides.specs.Holding.{equations_of};
 ghost use Rattle.systems.specs.Loading.{after_load, load_refusal};
-ghost use Rattle.systems.specs.Refusals.{after_choice, choice_number, choice_refusal, load_number, of_rule as by-rule};
-ghost use Rattle.systems.specs.Standings.{fresh, new as nothing-loaded};
+ghost use Rattle.systems.specs.Refusals.{after_choice, choice_number, choice_refusal, load_number, of_rule as by_rule};
+ghost use Rattle.systems.specs.Standings.{fresh, new as nothing_loaded};
 ghost use Rattle.stand.specs.Holding.{standing_of};
 ghost use Rattle.stand.specs.Popping.{Popped, RefusesBeforePlaces, with_rule};
 
@@ -21,7 +21,7 @@ const MOST_POPS: usize = 1_024;
 
 // A choice that makes a rule is refused as the rule is.
 fn of_rule(why: RuleRefusal) -> ChoiceRefusal
-    ensures { result ≡ by-rule why }
+    ensures { result ≡ by_rule why }
 {
     match why {
         RuleRefusal::UnknownLetter => ChoiceRefusal::UnknownLetter,
@@ -35,7 +35,7 @@ fn of_rule(why: RuleRefusal) -> ChoiceRefusal
 impl Stand {
     // No equation, rule or pop, and room for all that may come: nothing after this can lack memory.
     pub fn new(heap: Global) -> Result<Stand, AllocError>
-        ensures { IfOk result (λ s. standing_of s ≡ nothing-loaded) }
+        ensures { IfOk result (λ s. standing_of s ≡ nothing_loaded) }
     {
         let sides = Sides::new(heap)?;
         let letters = Letters::new(heap)?;
@@ -118,7 +118,7 @@ impl Stand {
 
     // Makes the next letter by a rule, and answers its number.
     fn make(&mut self, rule: Rule) -> Result<u16, ChoiceRefusal>
-        ensures refusal { result_err result ≡ option_map by-rule (rule_refusal (standing_of self.old).rules rule) }
+        ensures refusal { result_err result ≡ option_map by_rule (rule_refusal (standing_of self.old).rules rule) }
         ensures letter { IfOk result (λ new. new ≡ fresh (standing_of self.old)) }
         ensures stands { standing_of self.new ≡ (if is_some (result_err result) then standing_of self.old else with_rule (standing_of self.old) rule) }
     {

@@ -14,4 +14,4 @@ returns-in-Ok c =
     let full : length buffer ≡ c.in_ok-letters.letters.len = omega (arith, c.fill.auto.buffer, c.as_mut_slice.ensures.len) in
     let whole : c.as_slice.result.now ≡ buffer = c.as_slice.ensures.value ∙ take_at buffer _ _ full in
     filled_added o c.args.start c.args.count blank buffer c.args.out.now.items c.extend_from_slice.new.self.items long c.in-Ok.ensures.answer c.in-Ok.ensures.holds
-    (c.in_ok-extend_from_slice.ensures.items ∙ ap (λ l. c.args.out.now.items ++ l) whole)
+    (c.in_ok-extend_from_slice-in-Ok.ensures.items ∙ ap (λ l. c.args.out.now.items ++ l) whole)

@@ -1,0 +1,19 @@
+ghost use Rattle.stand.specs.Holding.{standing_of};
+ghost use Rattle.checker.specs.Running.{SomeLoads, SomeRun};
+
+use stand::Stand;
+
+// Equations that are still loaded. Some loads led to what stands.
+#[derive(Drop)]
+pub struct System {
+    pub(crate) stand: Stand,
+    ghost run: { SomeLoads (standing_of stand) },
+}
+
+// A system that is opened: what stands, and which of A to Z are the variables of the system. Some loads and choices led to it.
+#[derive(Drop)]
+pub struct Check {
+    pub(crate) stand: Stand,
+    pub(crate) system: [bool; 26],
+    ghost run: { SomeRun (standing_of stand) system },
+}
