@@ -46,8 +46,8 @@ impl Check {
     // Whether x is a variable of the system whose word does not pass.
     fn fails<K: Measure>(&self, kind: &K, table: &[K::Value], x: u8) -> bool
         requires low { x < 26 }
-        requires filled { let k = kind.now in Filled (single k) (nothing k) (joined k) (standing self.now).rules table.now }
-        ensures { let k = kind.now in result ≡ does_fail (meaning (single k) (nothing k) (joined k) (passed k)) (system_of self.now) (standing self.now) x }
+        requires filled { let k = kind.now in Filled (K.single k) (K.nothing k) (K.joined k) (standing self.now).rules table.now }
+        ensures { let k = kind.now in result ≡ does_fail (meaning (K.single k) (K.nothing k) (K.joined k) (K.passed k)) (system_of self.now) (standing self.now) x }
     {
         if !self.system[x as usize] {
             return false;
@@ -63,8 +63,8 @@ impl Check {
 
     // The first variable of the system, from A, whose word does not pass.
     fn first_failing<K: Measure>(&self, kind: &K, table: &[K::Value]) -> Option<u8>
-        requires { let k = kind.now in Filled (single k) (nothing k) (joined k) (standing self.now).rules table.now }
-        ensures { let k = kind.now in result ≡ first (does_fail (meaning (single k) (nothing k) (joined k) (passed k)) (system_of self.now) (standing self.now)) variables }
+        requires { let k = kind.now in Filled (K.single k) (K.nothing k) (K.joined k) (standing self.now).rules table.now }
+        ensures { let k = kind.now in result ≡ first (does_fail (meaning (K.single k) (K.nothing k) (K.joined k) (K.passed k)) (system_of self.now) (standing self.now)) variables }
     {
         for x in 0..VARIABLES as u8 {
             if self.fails(kind, table, x) {
@@ -82,9 +82,9 @@ impl Check {
         table: &mut [K::Value],
         witness: &mut Witness,
     ) -> Result<(), CloseRefusal>
-        ensures answer { let k = kind.now in closed (result_err result) table.new (contents_of witness.new) ≡ what_closes (meaning (single k) (nothing k) (joined k) (passed k)) (system_of self.now) (standing self.now) table.old (contents_of witness.old) }
-        ensures number { let k = kind.now in option_map close_number (result_err result) ≡ option_map close_number (close_refusal (meaning (single k) (nothing k) (joined k) (passed k)) (system_of self.now) (standing self.now) (length table.old)) }
-        ensures guarantee { let k = kind.now in (loads : List Load) (choices : List Choice) → CameBy loads choices self.now → Promised (meaning (single k) (nothing k) (joined k) (passed k)) loads choices (standing self.now) table.old (closed (result_err result) table.new (contents_of witness.new)) }
+        ensures answer { let k = kind.now in closed (result_err result) table.new (contents_of witness.new) ≡ what_closes (meaning (K.single k) (K.nothing k) (K.joined k) (K.passed k)) (system_of self.now) (standing self.now) table.old (contents_of witness.old) }
+        ensures number { let k = kind.now in option_map close_number (result_err result) ≡ option_map close_number (close_refusal (meaning (K.single k) (K.nothing k) (K.joined k) (K.passed k)) (system_of self.now) (standing self.now) (length table.old)) }
+        ensures guarantee { let k = kind.now in (loads : List Load) (choices : List Choice) → CameBy loads choices self.now → Promised (meaning (K.single k) (K.nothing k) (K.joined k) (K.passed k)) loads choices (standing self.now) table.old (closed (result_err result) table.new (contents_of witness.new)) }
     {
         if let Some(why) = self.unfinished(table.len()) {
             return Err(why);

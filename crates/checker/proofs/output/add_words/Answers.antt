@@ -29,8 +29,8 @@ loop-x-preserved c =
     let system : ℕ → Bool = marked c.args.system.now in
     let flag : system x ≡ get_or c.args.system.now x false = cond-true (ltb x 26) (get_or c.args.system.now x false) false (lt-ltb x 26 c.loop-x-test.true) in
     elim c.if-system-x.branch [
-      | then-system-x w ↦ ap contents_of w.witness_is ∙ w.add_word.ensures ∙ ap (λ k. with_entries k (popped_entry pops x ∷ k.entries)) c.loop-x.invariant ∙ ap (with_entries old) (one_more system (made_and_popped [] pops) old.rules x (flag ∙ w.if-system-x.true))
-      | else-system-x w ↦ ap contents_of w.witness_is ∙ c.loop-x.invariant ∙ ap (with_entries old) (none_more system (made_and_popped [] pops) old.rules x (flag ∙ w.if-system-x.false))
+      | then-system-x w ↦ ap contents_of w.witness-is ∙ w.add_word.ensures ∙ ap (λ k. with_entries k (popped_entry pops x ∷ k.entries)) c.loop-x.invariant ∙ ap (with_entries old) (one_more system (made_and_popped [] pops) old.rules x (flag ∙ w.if-system-x.true))
+      | else-system-x w ↦ ap contents_of w.witness-is ∙ c.loop-x.invariant ∙ ap (with_entries old) (none_more system (made_and_popped [] pops) old.rules x (flag ∙ w.if-system-x.false))
     ]
 
 pub returns : goal.returns
