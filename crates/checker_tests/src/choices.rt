@@ -8,7 +8,6 @@ use witness::Witness;
 fn a_variable_that_stands_nowhere(rt: HostRuntime) -> Result<(), Fail> {
     let mut opened = chosen(rt.alloc(), b"X", b"a", &[])?;
     answers(
-        &rt,
         &mut opened,
         &[
             // also before an unknown letter
@@ -19,7 +18,7 @@ fn a_variable_that_stands_nowhere(rt: HostRuntime) -> Result<(), Fail> {
             (Choice::Erase(X), None),
             (Choice::Erase(X), Some(ChoiceRefusal::NotLive(X))),
         ],
-    );
+    )?;
     Ok(())
 }
 
@@ -28,7 +27,6 @@ fn letters_that_are_not_known(rt: HostRuntime) -> Result<(), Fail> {
     let mut opened = chosen(rt.alloc(), b"X", b"a", &[])?;
     let unknown = Some(ChoiceRefusal::UnknownLetter);
     answers(
-        &rt,
         &mut opened,
         &[
             (Choice::Left(X, FIRST), unknown),
@@ -42,7 +40,7 @@ fn letters_that_are_not_known(rt: HostRuntime) -> Result<(), Fail> {
             (Choice::Left(X, FIRST), None),
             (Choice::Left(X, FIRST + 1), unknown),
         ],
-    );
+    )?;
     Ok(())
 }
 
@@ -51,7 +49,6 @@ fn equal_letters_and_counts_out_of_range(rt: HostRuntime) -> Result<(), Fail> {
     let mut opened = chosen(rt.alloc(), b"aa", b"aa", &[])?;
     let out_of_range = Some(ChoiceRefusal::CountOutOfRange);
     answers(
-        &rt,
         &mut opened,
         &[
             (Choice::Pair(0, 0), Some(ChoiceRefusal::EqualLetters)),
@@ -61,7 +58,7 @@ fn equal_letters_and_counts_out_of_range(rt: HostRuntime) -> Result<(), Fail> {
             (Choice::Block(0, 1_000_000), None),
             (Choice::Block(0, 2), None),
         ],
-    );
+    )?;
     Ok(())
 }
 
@@ -70,7 +67,6 @@ fn a_refused_choice_changes_nothing(rt: HostRuntime) -> Result<(), Fail> {
     let heap = rt.alloc();
     let mut opened = chosen(heap, b"X", b"ab", &[])?;
     answers(
-        &rt,
         &mut opened,
         &[
             (Choice::Left(Y, 0), Some(ChoiceRefusal::NotLive(Y))),
@@ -82,7 +78,7 @@ fn a_refused_choice_changes_nothing(rt: HostRuntime) -> Result<(), Fail> {
             (Choice::Right(X, 0), None),
             (Choice::Erase(X), None),
         ],
-    );
+    )?;
     let mut witness = Witness::new(heap)?;
     assert_eq!(rt; close(heap, &opened, &mut witness)?, None);
     assert_eq!(rt; witness.rules().len(), 0);

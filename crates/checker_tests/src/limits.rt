@@ -1,16 +1,16 @@
 // The limits of a check, met and not yet met.
 use crate::tools::{FIRST, X, answers, chosen, close};
 use checker::Check;
-use std::process::Abort;
 use std::test::Fail;
 use systems::{Choice, ChoiceRefusal};
 use witness::Witness;
 
 // The choice is taken so many times.
-fn taken(rt: &impl Abort, opened: &mut Check, choice: Choice, times: u32) {
+fn taken(opened: &mut Check, choice: Choice, times: u32) -> Result<(), Fail> {
     for _ in 0..times {
-        assert_eq!(rt; opened.choose(choice).err(), None);
+        opened.choose(choice)?;
     }
+    Ok(())
 }
 
 #[test]
@@ -20,7 +20,6 @@ fn places(rt: HostRuntime) -> Result<(), Fail> {
     let mut opened = chosen(heap, row.as_slice(), row.as_slice(), &[])?;
     // nothing is noted of the two that are refused
     answers(
-        &rt,
         &mut opened,
         &[
             (Choice::Left(0, 0), None),
@@ -28,7 +27,7 @@ fn places(rt: HostRuntime) -> Result<(), Fail> {
             (Choice::Right(0, 0), Some(ChoiceRefusal::TooManyPlaces)),
             (Choice::Erase(0), None),
         ],
-    );
+    )?;
     let mut witness = Witness::new(heap)?;
     assert_eq!(rt; close(heap, &opened, &mut witness)?, None);
     assert_eq!(rt; witness.word(0), Some(&[0][..]));
@@ -38,32 +37,30 @@ fn places(rt: HostRuntime) -> Result<(), Fail> {
 #[test]
 fn pops(rt: HostRuntime) -> Result<(), Fail> {
     let mut opened = chosen(rt.alloc(), b"X", b"a", &[])?;
-    taken(&rt, &mut opened, Choice::Left(X, 0), 1_024);
+    taken(&mut opened, Choice::Left(X, 0), 1_024)?;
     answers(
-        &rt,
         &mut opened,
         &[
             (Choice::Left(X, 0), Some(ChoiceRefusal::TooManyPops)),
             (Choice::Right(X, 0), Some(ChoiceRefusal::TooManyPops)),
             (Choice::Right(X, FIRST), Some(ChoiceRefusal::UnknownLetter)),
         ],
-    );
+    )?;
     Ok(())
 }
 
 #[test]
 fn rules(rt: HostRuntime) -> Result<(), Fail> {
     let mut opened = chosen(rt.alloc(), b"", b"", &[])?;
-    taken(&rt, &mut opened, Choice::Pair(0, 1), 512);
+    taken(&mut opened, Choice::Pair(0, 1), 512)?;
     answers(
-        &rt,
         &mut opened,
         &[
             (Choice::Pair(0, 1), Some(ChoiceRefusal::TooManyRules)),
             (Choice::Block(537, 2), Some(ChoiceRefusal::TooManyRules)),
             (Choice::Block(537, 1), Some(ChoiceRefusal::CountOutOfRange)),
         ],
-    );
+    )?;
     Ok(())
 }
 
@@ -72,10 +69,9 @@ fn lengths(rt: HostRuntime) -> Result<(), Fail> {
     let heap = rt.alloc();
     let mut opened = chosen(heap, b"X", b"X", &[Choice::Block(0, 2)])?;
     for i in 0..38 {
-        taken(&rt, &mut opened, Choice::Block(FIRST + i, 2), 1);
+        taken(&mut opened, Choice::Block(FIRST + i, 2), 1)?;
     }
     answers(
-        &rt,
         &mut opened,
         &[
             (Choice::Block(FIRST + 38, 2), Some(ChoiceRefusal::TooLong)),
@@ -84,7 +80,7 @@ fn lengths(rt: HostRuntime) -> Result<(), Fail> {
             (Choice::Right(X, 1), None),
             (Choice::Erase(X), None),
         ],
-    );
+    )?;
     let mut witness = Witness::new(heap)?;
     assert_eq!(rt; close(heap, &opened, &mut witness)?, None);
     assert_eq!(rt; witness.length(X), Ok(549_755_813_889));

@@ -1,5 +1,5 @@
 -- Rules and lengths as they are stored, oldest first, with one more of each. Assumes nothing.
-use Rattle.std.proofs.Common.{◌≡◌, ℕ, ◌+◌, ◌<◌, ◌≤◌, true, ◌⊎◌, List, [], ◌∷◌, ◌++◌, reverse, length, get_or, None, sym, ap, ◌∙◌, ⊎_elim, arith}
+use Rattle.std.proofs.Common.{◌≡◌, ℕ, ◌+◌, ◌<◌, ◌≤◌, true, List, [], ◌∷◌, ◌++◌, reverse, length, get_or, None, sym, ap, ◌∙◌, ⊎_elim, arith}
 use Rattle.std.proofs.lemmas.List.{length-reverse, length_push, get_or_append_left, get_or_push}
 use Rattle.std.proofs.lemmas.Bool.{and_from, cases_lt}
 use Rattle.model.specs.declared.Rule.{Rule}

@@ -2,7 +2,6 @@
 use listing::{PrintRefusal, print, read};
 use model::{Rule, RuleRefusal};
 use std::alloc::Global;
-use std::process::Abort;
 use std::test::Fail;
 use witness::{LetterRefusal, Witness};
 
@@ -16,29 +15,33 @@ fn rule(i: u16) -> Rule {
 }
 
 // Every limit is met: 512 rules, 26 variables and 1,024 letters.
-fn full_size(rt: &impl Abort, heap: Global) -> Result<Witness, Fail> {
+fn full_size(heap: Global) -> Result<Witness, Fail> {
     let mut witness = Witness::new(heap)?;
     for i in 0..512 {
-        assert_eq!(rt; witness.add_rule(rule(i)), Ok(()));
+        witness.add_rule(rule(i))?;
     }
-    assert_eq!(rt; witness.add_rule(rule(0)), Err(RuleRefusal::TooManyRules));
+    if witness.add_rule(rule(0)) != Err(RuleRefusal::TooManyRules) {
+        return Err(Fail::new("one rule too many"));
+    }
     for variable in 0..26 {
-        assert_eq!(rt; witness.start_word(variable), Ok(()));
+        witness.start_word(variable)?;
         for i in 0..39 {
-            assert_eq!(rt; witness.push_letter(537 - i), Ok(()));
+            witness.push_letter(537 - i)?;
         }
     }
     for _ in 0..10 {
-        assert_eq!(rt; witness.push_letter(537), Ok(()));
+        witness.push_letter(537)?;
     }
-    assert_eq!(rt; witness.push_letter(0), Err(LetterRefusal::TooManyLetters));
+    if witness.push_letter(0) != Err(LetterRefusal::TooManyLetters) {
+        return Err(Fail::new("one letter too many"));
+    }
     Ok(witness)
 }
 
 #[test]
 fn printed_and_read_back(rt: HostRuntime) -> Result<(), Fail> {
     let heap = rt.alloc();
-    let witness = full_size(&rt, heap)?;
+    let witness = full_size(heap)?;
     let mut first = vec![in heap; 0u8; 20_000]?;
     let n = print(&witness, first.as_mut_slice())?;
     assert!(rt; n <= first.len());

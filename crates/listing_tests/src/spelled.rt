@@ -2,7 +2,6 @@
 use listing::{ReadRefusal, read};
 use model::Rule;
 use std::alloc::Global;
-use std::process::Abort;
 use std::test::Fail;
 use witness::{Witness, WitnessRefusal};
 
@@ -53,20 +52,20 @@ fn a_buffer_at_the_end(rt: HostRuntime) -> Result<(), Fail> {
 }
 
 // Thirty-nine doublings of a, and b behind them.
-fn doublings(rt: &impl Abort, heap: Global) -> Result<Witness, Fail> {
+fn doublings(heap: Global) -> Result<Witness, Fail> {
     let mut witness = Witness::new(heap)?;
-    assert_eq!(rt; witness.add_rule(Rule::Block(0, 2)), Ok(()));
+    witness.add_rule(Rule::Block(0, 2))?;
     for letter in 26..64 {
-        assert_eq!(rt; witness.add_rule(Rule::Block(letter, 2)), Ok(()));
+        witness.add_rule(Rule::Block(letter, 2))?;
     }
-    assert_eq!(rt; witness.start_word(X), Ok(()));
-    assert_eq!(rt; witness.push_letter(64), Ok(()));
+    witness.start_word(X)?;
+    witness.push_letter(64)?;
     Ok(witness)
 }
 
 #[test]
 fn thirty_nine_doublings(rt: HostRuntime) -> Result<(), Fail> {
-    let mut witness = doublings(&rt, rt.alloc())?;
+    let mut witness = doublings(rt.alloc())?;
     assert_eq!(rt; witness.length(X), Ok(549_755_813_888));
     assert_eq!(rt; witness.letter(X, 549_755_813_887), Ok(0));
     assert_eq!(rt;

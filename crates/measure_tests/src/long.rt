@@ -16,7 +16,7 @@ fn counts_every_letter(rt: HostRuntime) -> Result<(), Fail> {
     for n in LONG {
         let word = mixed_word(heap, n)?;
         assert_eq!(rt;
-            value_of(&rt, heap, &kind, &[], word.as_slice())?.count as usize,
+            value_of(heap, &kind, &[], word.as_slice())?.count as usize,
             n
         );
     }
@@ -33,10 +33,7 @@ fn collects_every_letter(rt: HostRuntime) -> Result<(), Fail> {
         for letter in word.as_slice() {
             bits |= 1u32 << (*letter % 26);
         }
-        assert_eq!(rt;
-            value_of(&rt, heap, &kind, &[], word.as_slice())?.bits,
-            bits
-        );
+        assert_eq!(rt; value_of(heap, &kind, &[], word.as_slice())?.bits, bits);
     }
     Ok(())
 }
@@ -51,7 +48,7 @@ fn reads_letter_by_letter(rt: HostRuntime) -> Result<(), Fail> {
     let kind = Machine::new(next, [0; 26])?;
     for n in LONG {
         let word = mixed_word(heap, n)?;
-        let value = value_of(&rt, heap, &kind, &[], word.as_slice())?;
+        let value = value_of(heap, &kind, &[], word.as_slice())?;
         for start in 0..8 {
             let mut state = start;
             for letter in word.as_slice() {

@@ -29,12 +29,9 @@ fn both_parts_and_their_opposite(rt: HostRuntime) -> Result<(), Fail> {
     for variable in 0..3 {
         for i in 0..4 {
             let expected = by_both[variable][i];
+            assert_eq!(rt; passes(heap, &both, words[i], variable as u8)?, expected);
             assert_eq!(rt;
-                passes(&rt, heap, &both, words[i], variable as u8)?,
-                expected
-            );
-            assert_eq!(rt;
-                passes(&rt, heap, &outer, words[i], variable as u8)?,
+                passes(heap, &outer, words[i], variable as u8)?,
                 expected != (variable > 0)
             );
         }
@@ -50,8 +47,8 @@ fn opposite_twice_is_the_kind(rt: HostRuntime) -> Result<(), Fail> {
     let words: [&[u16]; 4] = [&[], &[0], &[0, 1], &[0, 1, 2]];
     for word in words {
         assert_eq!(rt;
-            passes(&rt, heap, &twice, word, 25)?,
-            passes(&rt, heap, &short, word, 25)?
+            passes(heap, &twice, word, 25)?,
+            passes(heap, &short, word, 25)?
         );
     }
     Ok(())

@@ -22,7 +22,7 @@ fn mixed_machine() -> Result<Machine, Fail> {
 fn power_is_so_many_joins(rt: HostRuntime) -> Result<(), Fail> {
     let heap = rt.alloc();
     let kind = mixed_machine()?;
-    let value = value_of(&rt, heap, &kind, &[], &[3, 20, 11])?;
+    let value = value_of(heap, &kind, &[], &[3, 20, 11])?;
     let mut joined = kind.empty();
     for n in 0..300 {
         let fast = power(&kind, value, n);
@@ -40,8 +40,8 @@ fn rules_stand_for_what_they_spell(rt: HostRuntime) -> Result<(), Fail> {
     let kind = mixed_machine()?;
     // ab, ababab, abababc
     let rules = [Rule::Pair(0, 1), Rule::Block(26, 3), Rule::Pair(27, 2)];
-    let made = value_of(&rt, heap, &kind, &rules, &[28, 26, 5])?;
-    let spelled = value_of(&rt, heap, &kind, &[], &[0, 1, 0, 1, 0, 1, 2, 0, 1, 5])?;
+    let made = value_of(heap, &kind, &rules, &[28, 26, 5])?;
+    let spelled = value_of(heap, &kind, &[], &[0, 1, 0, 1, 0, 1, 2, 0, 1, 5])?;
     for s in 0..8 {
         assert!(rt; made.to[s] == spelled.to[s]);
     }

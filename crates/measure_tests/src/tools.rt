@@ -5,7 +5,6 @@ use measure::values::{fill_values, word_value};
 use measure::variable::Variable;
 use model::Rule;
 use std::alloc::Global;
-use std::process::Abort;
 use std::test::Fail;
 
 // A word of so many letters a to z, in no simple order.
@@ -34,20 +33,20 @@ pub(crate) fn table_for<K: Measure>(
 
 // The value of what the word spells by these rules.
 pub(crate) fn value_of<K: Measure>(
-    rt: &impl Abort,
     heap: Global,
     kind: &K,
     rules: &[Rule],
     word: &[u16],
 ) -> Result<K::Value, Fail> {
     let mut table = table_for(heap, kind, 64)?;
-    assert!(rt; fill_values(kind, rules, table.as_mut_slice()));
+    if !fill_values(kind, rules, table.as_mut_slice()) {
+        return Err(Fail::new("the table is not filled"));
+    }
     Ok(word_value(kind, table.as_slice(), word))
 }
 
 // Whether it passes for the variable.
 pub(crate) fn passes<K: Measure>(
-    rt: &impl Abort,
     heap: Global,
     kind: &K,
     word: &[u16],
@@ -56,5 +55,5 @@ pub(crate) fn passes<K: Measure>(
     let Some(variable) = Variable::new(variable) else {
         return Err(Fail::new("no variable"));
     };
-    Ok(kind.passes(variable, value_of(rt, heap, kind, &[], word)?))
+    Ok(kind.passes(variable, value_of(heap, kind, &[], word)?))
 }

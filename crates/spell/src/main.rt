@@ -2,10 +2,10 @@
 
 #![tactic(auto)]
 
-use anyhow::anyhow;
 use readout::{Request, reply_to, stretch_request};
 use std::env;
 use std::io::{Read, Write};
+use std::process::ExitCode;
 
 const USAGE: &str =
     "usage: spell < LISTING, or spell VARIABLE START COUNT < LISTING with a variable A to Z and a count of at most 1000000";
@@ -38,10 +38,10 @@ fn run(rt: &HostRuntime) -> anyhow::Result<bool> {
     Ok(reply.granted)
 }
 
-fn main(rt: HostRuntime) -> anyhow::Result<()> {
+fn main(rt: HostRuntime) -> anyhow::Result<ExitCode> {
     if run(&rt)? {
-        Ok(())
+        Ok(ExitCode::SUCCESS)
     } else {
-        Err(anyhow!("not granted"))
+        Ok(ExitCode::FAILURE)
     }
 }

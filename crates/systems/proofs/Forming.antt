@@ -28,7 +28,6 @@ use Rattle.systems.specs.Theorems.{RunsAreWellFormed}
 use Rattle.systems.proofs.Allowing.{unless_refused, not_refused, MayPop, Allowed, allowed}
 use Rattle.systems.proofs.Living.{all_sides}
 use Rattle.systems.proofs.Rows.{all_joined, all_pairs, all_blocks}
-use Rattle.systems.specs.declared.LoadRefusal.TheVariants as load
 
 -- how many places there are
 

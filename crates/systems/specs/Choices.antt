@@ -30,25 +30,25 @@ effect (Pair a b) c = side_pairs a b c
 effect (Block a n) c = side_blocks a n c
 
 -- the rule that it makes, even where nothing was replaced
-abbrev pub new-rules : Choice → List Rule
-new-rules (Left x a) = []
-new-rules (Right x a) = []
-new-rules (Erase x) = []
-new-rules (Pair a b) = PairRule a b ∷ []
-new-rules (Block a n) = BlockRule a n ∷ []
+abbrev pub new_rules : Choice → List Rule
+new_rules (Left x a) = []
+new_rules (Right x a) = []
+new_rules (Erase x) = []
+new_rules (Pair a b) = PairRule a b ∷ []
+new_rules (Block a n) = BlockRule a n ∷ []
 
 -- the pop that it notes
-abbrev pub new-pops : Choice → List Pop
-new-pops (Left x a) = AtLeft x a ∷ []
-new-pops (Right x a) = AtRight x a ∷ []
-new-pops (Erase x) = []
-new-pops (Pair a b) = []
-new-pops (Block a n) = []
+abbrev pub new_pops : Choice → List Pop
+new_pops (Left x a) = AtLeft x a ∷ []
+new_pops (Right x a) = AtRight x a ∷ []
+new_pops (Erase x) = []
+new_pops (Pair a b) = []
+new_pops (Block a n) = []
 
 -- what stands once the choice is taken
 abbrev pub taken : Standing → Choice → Standing
 taken S choice = record {
   equations = on_sides (effect choice (fresh S)) S.equations;
-  rules = new-rules choice ++ S.rules;
-  pops = S.pops ++ new-pops choice;
+  rules = new_rules choice ++ S.rules;
+  pops = S.pops ++ new_pops choice;
 }

@@ -1,5 +1,5 @@
 -- Letters in a row: where a place is found, and what a rule puts in a row. Assumes nothing.
-use Rattle.std.proofs.Common.{◌≡◌, ℕ, zero, suc, ◌+◌, ◌-◌, ◌*◌, ◌/◌, ◌%◌, ◌<◌, ◌≤◌, max, true, ◌&&◌, ltb, ◌⊎◌, List, [], ◌∷◌, ◌++◌, length, get_or, take, drop, replicate, Some, None, Option, unwrap_or, sym, refl, ap, ◌∙◌, ⊎_elim, append-nil, mod-lt, suc-mul, mul_comm, div-add-mod', zero-mul, div-le_self, arith}
+use Rattle.std.proofs.Common.{◌≡◌, ℕ, zero, suc, ◌+◌, ◌-◌, ◌*◌, ◌/◌, ◌%◌, ◌<◌, ◌≤◌, max, true, ◌&&◌, ltb, List, [], ◌∷◌, ◌++◌, length, get_or, take, drop, replicate, Some, None, Option, unwrap_or, sym, refl, ap, ◌∙◌, ⊎_elim, append-nil, mod-lt, suc-mul, mul_comm, div-add-mod', zero-mul, div-le_self, arith}
 use native.Mathlib.Nat.{div-le_of_le-mul}
 use lib.Seq.{drop-append-add}
 use Rattle.std.proofs.lemmas.List.{drop_more, drop_all, get_or-drop, get_or_append_left, get_or-replicate, length-replicate, length-drop}

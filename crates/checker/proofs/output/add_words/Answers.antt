@@ -1,7 +1,6 @@
 use Rattle.std.proofs.Common.{◌≡◌, ℕ, Bool, true, false, ltb, [], ◌∷◌, get_or, ap, ◌∙◌, arith}
 use Rattle.std.proofs.lemmas.Bool.{cond-true, lt-ltb}
 use Rattle.model.specs.Witnesses.{Contents, entry_fits}
-use Rattle.guarantee.specs.Closing.{entries}
 use Rattle.witness.specs.Holding.{contents_of}
 use Rattle.checker.specs.Holding.{marked}
 use Rattle.checker.specs.Popped.{made_and_popped, popped_entry, with_entries}

@@ -1,5 +1,4 @@
 use Rattle.std.proofs.Common.{sym, ◌∙◌, arith, below_more}
-use Rattle.guarantee.specs.Closing.{fails}
 use Rattle.checker.proofs.Ends.{first_found, none_found}
 use Rattle.checker.proofs.store.Check.first_failing.Goals as goal
 

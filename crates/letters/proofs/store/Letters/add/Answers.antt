@@ -1,4 +1,4 @@
-use Rattle.std.proofs.Common.{◌≡◌, length, sym, ◌∙◌, arith, rules}
+use Rattle.std.proofs.Common.{◌≡◌, length, sym, ◌∙◌, arith}
 use Rattle.letters.proofs.Stored.{room_more, newest, fit_more, measured_more}
 use Rattle.letters.proofs.store.Letters.add.Goals as goal
 
