@@ -1,7 +1,7 @@
 -- The first live variable and the first equation whose sides differ, found and as they are defined. Assumes nothing.
 use Rattle.std.proofs.Common.{◌≡◌, ℕ, zero, suc, ◌+◌, ◌-◌, ◌<◌, ◌≤◌, Bool, true, false, ltb, ◌⊎◌, List, [], ◌∷◌, length, get_or, take, Some, None, Option, sym, refl, ap, ◌∙◌, ap₂, inl, inr, arith}
 use Rattle.std.specs.Option.{option_map}
-use Rattle.std.specs.List.{AllByRecursion as All}
+use Rattle.std.specs.List.{AllByRecursion}
 use Rattle.std.proofs.lemmas.Bool.{cases_Bool, cases_lt, cond-true, cond-false, le-ltb, lt-ltb}
 use Rattle.systems.specs.Sides.{Equation, SameSides}
 use Rattle.systems.specs.Standings.{Standing, fresh, live}
@@ -48,7 +48,7 @@ differs e other = split (cases_Bool (same_side e.0 e.1))
     split (inl same) = absurd (other (side_same e.0 e.1 same))
     split (inr is) = is
 
-differing_at : (E : List Equation) (i k : ℕ) → k < length E → All SameSides (take k E) → (SameSides (get_or E k ([], [])) → ⊥) → first_differing i E ≡ Some (i + k)
+differing_at : (E : List Equation) (i k : ℕ) → k < length E → AllByRecursion SameSides (take k E) → (SameSides (get_or E k ([], [])) → ⊥) → first_differing i E ≡ Some (i + k)
 differing_at [] i k lt same other = absurd (omega arith)
 differing_at (e ∷ E) i zero lt same other = cond-false (same_side e.0 e.1) (first_differing (suc i) E) (Some i) (differs e other) ∙ ap Some (omega arith)
 differing_at (e ∷ E) i (suc k) lt same other =

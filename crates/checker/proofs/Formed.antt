@@ -2,7 +2,7 @@
 use Rattle.std.proofs.Common.{◌≡◌, ℕ, zero, suc, ◌<◌, ◌≤◌, Bool, true, false, cond, ltb, ◌⊎◌, List, [], ◌∷◌, get_or, sym, refl, ap, ◌∙◌, inl, inr, ⊎_elim, arith}
 use mathlib.Core.Logic.{∥∥₁_elim}
 use mathlib.Core.Bool.{Bool-set}
-use Rattle.std.specs.List.{AllByRecursion as All}
+use Rattle.std.specs.List.{AllByRecursion}
 use Rattle.std.proofs.lemmas.Bool.{and_parts, cases_Bool, cases_lt, cond-true, cond-false, lt-ltb, le-ltb, ltb-true}
 use Rattle.model.specs.Spelling.{Word}
 use Rattle.model.specs.Witnesses.{all_below, entries_fit, rules_fit}
@@ -29,11 +29,11 @@ pub low_where_live : (S : Standing) (flags : List Bool) → SomeRun S flags → 
 low_where_live S flags some x alive = ltb-true x 26 (tested S flags (ltb x 26) some (λ formed. lt-ltb x 26 (live_low S formed x alive)))
 
 -- the letters of a popped word are known
-below_each : (k : ℕ) (w : Word) → all_below k w ≡ true → All (λ a. a < k) w
+below_each : (k : ℕ) (w : Word) → all_below k w ≡ true → AllByRecursion (λ a. a < k) w
 below_each k [] h = tt
 below_each k (a ∷ w) h = let p = below_parts k a w h in (p.0, below_each k w p.1)
 
-pub each_known : (S : Standing) (flags : List Bool) → SomeRun S flags → (x : ℕ) → All (λ a. a < fresh S) (popped_word S x)
+pub each_known : (S : Standing) (flags : List Bool) → SomeRun S flags → (x : ℕ) → AllByRecursion (λ a. a < fresh S) (popped_word S x)
 each_known S flags some x = below_each (fresh S) (popped_word S x) (tested S flags (all_below (fresh S) (popped_word S x)) some (λ formed. below_all (fresh S) (popped_word S x) (popped_below S formed x)))
 
 -- the words fit behind one another

@@ -1,6 +1,6 @@
 -- Any bytes are a listing, or are refused at a line: a search through all that may come decides each line. Assumes nothing.
 use Rattle.std.proofs.Common.{◌≡◌, ℕ, zero, suc, ◌+◌, ◌<◌, ◌≤◌, Bool, true, false, ◌⊎◌, List, [], ◌∷◌, ◌++◌, length, Some, None, sym, refl, ap, ◌∙◌, subst, inl, inr, ⊎_elim, append_assoc, append-nil, arith}
-use Rattle.std.specs.List.{AllByRecursion as All}
+use Rattle.std.specs.List.{AllByRecursion}
 use Rattle.std.proofs.lemmas.List.{nil_from_length}
 use Rattle.std.proofs.lemmas.Bool.{cases_eq, true≢false}
 use Rattle.model.specs.declared.Rule.{Rule}
@@ -161,9 +161,9 @@ furthest s (l ∷ ls) =
 
 -- whole lines, and what is left
 abbrev Cut : Bytes → Type 0
-Cut bs = (ls : List Bytes) × ((t : Bytes) × All Line ls × Line t × (bs ≡ lines_text ls ++ t))
+Cut bs = (ls : List Bytes) × ((t : Bytes) × AllByRecursion Line ls × Line t × (bs ≡ lines_text ls ++ t))
 
-longer_cut : (c : ℕ) (bs : Bytes) → (c ≡ 10 → ⊥) → (ls : List Bytes) (t : Bytes) → All Line ls → Line t → bs ≡ lines_text ls ++ t → Cut (c ∷ bs)
+longer_cut : (c : ℕ) (bs : Bytes) → (c ≡ 10 → ⊥) → (ls : List Bytes) (t : Bytes) → AllByRecursion Line ls → Line t → bs ≡ lines_text ls ++ t → Cut (c ∷ bs)
 longer_cut c bs ne [] t hl ht e = ([], (c ∷ t, tt, free_cons 10 c t ne ht, ap (λ x. c ∷ x) e))
 longer_cut c bs ne (l ∷ ls) t hl ht e = ((c ∷ l) ∷ ls, (t, (free_cons 10 c l ne hl.0, hl.1), ht, ap (λ x. c ∷ x) e))
 
@@ -185,11 +185,11 @@ stopped bs good (Ruling rs) r e = inr (length good + 1, refuse_end bs good (Ruli
 stopped bs good (Gapped rs) r e = inr (length good + 1, refuse_end bs good (Gapped rs) r refl e)
 stopped bs good (Giving rs es) r e = let h = ends bs good rs es r e in inl (record { rules = rs; entries = es }, h.0, h.1)
 
-plain_at : (good : List Bytes) (l : Bytes) (more : List Bytes) → All Line (good ++ (l ∷ more)) → Line l
+plain_at : (good : List Bytes) (l : Bytes) (more : List Bytes) → AllByRecursion Line (good ++ (l ∷ more)) → Line l
 plain_at [] l more h = h.0
 plain_at (k ∷ good) l more h = plain_at good l more h.1
 
-finish : (bs : Bytes) (good more : List Bytes) (tail : Bytes) (t : State) → Run Start good t → StuckAt t more → All Line (good ++ more) → Line tail → bs ≡ lines_text (good ++ more) ++ tail → Answer bs
+finish : (bs : Bytes) (good more : List Bytes) (tail : Bytes) (t : State) → Run Start good t → StuckAt t more → AllByRecursion Line (good ++ more) → Line tail → bs ≡ lines_text (good ++ more) ++ tail → Answer bs
 finish bs good [] [] t r stuck hl ht e = stopped bs good t r (e ∙ append-nil (lines_text (good ++ [])) ∙ ap lines_text (append-nil good))
 finish bs good [] (c ∷ tail) t r stuck hl ht e = inr (length good + 1, refuse_cut bs good t c tail r ht (e ∙ ap (λ k. lines_text k ++ (c ∷ tail)) (append-nil good)))
 finish bs good (l ∷ more) tail t r stuck hl ht e =
@@ -204,4 +204,4 @@ listing_or_line bs =
     let c = cut bs in
     let f = furthest Start c.0 in
     let is : c.0 ≡ f.0 ++ f.1.0 = f.1.1 in
-    finish bs f.0 f.1.0 c.1.0 f.1.2.0 f.1.2.1 f.1.2.2 (subst (λ k. All Line k) is c.1.1) c.1.2 (c.1.3 ∙ ap (λ k. lines_text k ++ c.1.0) is)
+    finish bs f.0 f.1.0 c.1.0 f.1.2.0 f.1.2.1 f.1.2.2 (subst (λ k. AllByRecursion Line k) is c.1.1) c.1.2 (c.1.3 ∙ ap (λ k. lines_text k ++ c.1.0) is)

@@ -1,6 +1,6 @@
 -- Each line shows what it brings, and has no newline in it. Assumes nothing.
 use Rattle.std.proofs.Common.{◌≡◌, ℕ, ◌+◌, ◌^◌, ◌<◌, ◌≤◌, true, ◌&&◌, List, [], ◌∷◌, ◌++◌, length, get_or, Some, None, codes, decimal, sym, refl, ap, append_assoc, arith, lit<}
-use Rattle.std.specs.List.{AllByRecursion as All}
+use Rattle.std.specs.List.{AllByRecursion}
 use Rattle.std.proofs.lemmas.Bool.{and_parts, and_from}
 use Rattle.std.proofs.lemmas.Fmt.{decimal_injective}
 use Rattle.model.specs.declared.Rule.{Rule}
@@ -32,7 +32,7 @@ make_free b low = (
 )
 
 -- letters below n and counts below m fit 64 bits
-free_fields : (b n m : ℕ) (rule : Rule) → b < 35 → n ≤ 2 ^ 64 → m ≤ 2 ^ 64 → Within n m rule → All (λ l. free b l ≡ true) (rule_fields rule)
+free_fields : (b n m : ℕ) (rule : Rule) → b < 35 → n ≤ 2 ^ 64 → m ≤ 2 ^ 64 → Within n m rule → AllByRecursion (λ l. free b l ≡ true) (rule_fields rule)
 free_fields b n m (Pair x y) low few less w = (
   (make_free b low).0,
   (free_letter b x (omega arith) (λ e. omega arith) (omega (arith, w.0)), (free_letter b y (omega arith) (λ e. omega arith) (omega (arith, w.1)), tt)),
@@ -81,7 +81,7 @@ rule_some c (Block x n) e = no_cut 32 [] (letter_name c) (row (codes "block") (l
 pub spelled_short : (rules : List Rule) (older : List Entry) (e : Entry) → rules_fit rules ≡ true → EntryAfter rules older e → length (spell_word rules e.word) < 10 ^ 16
 spelled_short rules older e hr g = omega (arith, spell_word_short rules e.word hr, g.few)
 
-free_entry : (b : ℕ) (rules : List Rule) (older : List Entry) (e : Entry) → b < 35 → rules_fit rules ≡ true → EntryAfter rules older e → (free b (variable_name e.variable) ≡ true) × All (λ l. free b l ≡ true) (decimal (length (spell_word rules e.word)) ∷ word_text e.word ∷ [])
+free_entry : (b : ℕ) (rules : List Rule) (older : List Entry) (e : Entry) → b < 35 → rules_fit rules ≡ true → EntryAfter rules older e → (free b (variable_name e.variable) ≡ true) × AllByRecursion (λ l. free b l ≡ true) (decimal (length (spell_word rules e.word)) ∷ word_text e.word ∷ [])
 free_entry b rules older e low hr g =
     let few : length rules ≤ 512 = rules_few rules hr in
     let short : length (spell_word rules e.word) < 10 ^ 16 = spelled_short rules older e hr g in (

@@ -1,6 +1,6 @@
 -- When reading ends: a listing, or the first bad line. Assumes nothing.
 use Rattle.std.proofs.Common.{◌≡◌, ℕ, ◌+◌, true, false, ◌⊎◌, List, [], ◌∷◌, ◌++◌, length, sym, refl, ap, ◌∙◌, subst, inl, inr, ⊎_elim, append_assoc, append-nil, arith}
-use Rattle.std.specs.List.{AllByRecursion as All}
+use Rattle.std.specs.List.{AllByRecursion}
 use Rattle.std.proofs.lemmas.Bool.{true≢false}
 use Rattle.model.specs.declared.Rule.{Rule}
 use Rattle.model.specs.Witnesses.{Entry, valid}
@@ -11,7 +11,7 @@ use Rattle.format.specs.Reading.{Begins, Refused, OneLine}
 use Rattle.format.specs.Steps.{State, Start, Giving, giving, Run, Stuck}
 use Rattle.format.proofs.Runs.{run_valid, run_written, run_plain, run_same, run_front, reached, lines_plain, begins_from_run, run_from_begins}
 
-plain_push : (ls : List Bytes) (l : Bytes) → All Line ls → Line l → All Line (ls ++ (l ∷ []))
+plain_push : (ls : List Bytes) (l : Bytes) → AllByRecursion Line ls → Line l → AllByRecursion Line (ls ++ (l ∷ []))
 plain_push [] l h p = (p, tt)
 plain_push (k ∷ ls) l h p = (h.0, plain_push ls l h.1 p)
 
@@ -89,7 +89,7 @@ Onward g r h = (l : Bytes) × Line l × ((more : List Bytes) × (h ≡ g ++ (l �
 onward_cons : (k : Bytes) (g h : List Bytes) (r : Bytes) → Onward g r h → Onward (k ∷ g) r (k ∷ h)
 onward_cons k g h r o = (o.0, o.1, (o.2.0, ap (λ ls. k ∷ ls) o.2.1, o.2.2))
 
-compare : (g h : List Bytes) (r s : Bytes) → All Line g → All Line h → lines_text g ++ r ≡ lines_text h ++ s → (g ≡ h) ⊎ (Onward g r h ⊎ Onward h s g)
+compare : (g h : List Bytes) (r s : Bytes) → AllByRecursion Line g → AllByRecursion Line h → lines_text g ++ r ≡ lines_text h ++ s → (g ≡ h) ⊎ (Onward g r h ⊎ Onward h s g)
 compare [] [] r s hg hh e = inl refl
 compare [] (l ∷ h) r s hg hh e = inr (inl (l, hh.0, (h, refl, (lines_text h ++ s, e ∙ append_assoc l (10 ∷ lines_text h) s))))
 compare (l ∷ g) [] r s hg hh e = inr (inr (l, hg.0, (g, refl, (lines_text g ++ r, sym e ∙ append_assoc l (10 ∷ lines_text g) r))))

@@ -1,6 +1,6 @@
 -- Runs from line to line, and that a listing has only one contents. Assumes nothing.
 use Rattle.std.proofs.Common.{◌≡◌, true, List, [], ◌∷◌, ◌++◌, Some, None, sym, refl, ap, ◌∙◌, subst, append_assoc, append-nil}
-use Rattle.std.specs.List.{AllByRecursion as All}
+use Rattle.std.specs.List.{AllByRecursion}
 use Rattle.std.proofs.lemmas.Bool.{and_parts}
 use Rattle.model.specs.declared.Rule.{Rule}
 use Rattle.model.specs.Witnesses.{Contents, Entry, rules_fit, entries_fit, rule_fits, entry_fits, valid}
@@ -23,7 +23,7 @@ run_written s (l ∷ ls) t r =
     ∙ append_assoc (written s) (line s r.0 ∷ []) ls
     ∙ ap (λ k. written s ++ k ∷ ls) (sym r.2)
 
-pub run_plain : (s : State) (ls : List Bytes) (t : State) → valid (contents s) ≡ true → Run s ls t → All Line ls
+pub run_plain : (s : State) (ls : List Bytes) (t : State) → valid (contents s) ≡ true → Run s ls t → AllByRecursion Line ls
 run_plain s [] t h r = tt
 run_plain s (l ∷ ls) t h r = (ap (λ k. free 10 k) r.2 ∙ line_plain s r.0 h r.1, run_plain (after s r.0) ls t (valid_after s r.0 h r.1) r.3)
 
@@ -67,7 +67,7 @@ reached d h =
     let p = and_parts (rules_fit d.rules) (entries_fit d.rules d.entries) h in
     reach_words d.rules d.entries p.0 p.1
 
-pub lines_plain : (d : Contents) → valid d ≡ true → All Line (lines d)
+pub lines_plain : (d : Contents) → valid d ≡ true → AllByRecursion Line (lines d)
 lines_plain d h = run_plain Start (lines d) (Giving d.rules d.entries) refl (reached d h)
 
 -- the lines so far begin the listing of what they have brought
@@ -83,7 +83,7 @@ begins_from_run ls t r =
     let is : lines (contents t) ≡ ls ++ more.0 = more.1 ∙ ap (λ k. k ++ more.0) (run_written Start ls t r) in
     (contents t, run_valid Start ls t refl r, (lines_text more.0, ap lines_text is ∙ lines_append ls more.0))
 
-pub run_from_begins : (ls : List Bytes) → All Line ls → Begins (lines_text ls) → (t : State) × Run Start ls t
+pub run_from_begins : (ls : List Bytes) → AllByRecursion Line ls → Begins (lines_text ls) → (t : State) × Run Start ls t
 run_from_begins ls h b =
     let d = b.0 in
     let f = first_lines (lines d) ls b.2.0 (lines_plain d b.1) h b.2.1 in

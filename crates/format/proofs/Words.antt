@@ -1,6 +1,6 @@
 -- What the text of a word lacks, and that it shows the word. Assumes nothing.
 use Rattle.std.proofs.Common.{◌≡◌, ℕ, ◌+◌, ◌^◌, ◌<◌, ◌≤◌, true, List, [], ◌∷◌, ◌++◌, get_or, decimal, sym, refl, ap, ◌∙◌, ⊎_elim, append-nil, arith, lit<}
-use Rattle.std.specs.List.{AllByRecursion as All}
+use Rattle.std.specs.List.{AllByRecursion}
 use Rattle.std.proofs.lemmas.Bool.{cases_lt}
 use Rattle.model.specs.Spelling.{Word}
 use Rattle.model.specs.Witnesses.{all_below}
@@ -11,7 +11,7 @@ use Rattle.text.proofs.Cuts.{free_cons, same_between, free_between}
 use Rattle.text.proofs.Names.{free_letter, letter_basic, letter_made, same_letter}
 use Rattle.format.specs.Listing.{letter_names, word_text}
 
-free_names : (b n : ℕ) (w : Word) → b < 48 → (35 ≡ b → ⊥) → n ≤ 2 ^ 64 → all_below n w ≡ true → All (λ l. free b l ≡ true) (letter_names w)
+free_names : (b n : ℕ) (w : Word) → b < 48 → (35 ≡ b → ⊥) → n ≤ 2 ^ 64 → all_below n w ≡ true → AllByRecursion (λ l. free b l ≡ true) (letter_names w)
 free_names b n [] low ne few h = tt
 free_names b n (a ∷ w) low ne few h =
     let p = below_parts n a w h in

@@ -1,6 +1,6 @@
 -- What it means to read a listing and to refuse one at a line, and the laws of listings. Assumes nothing.
 use Rattle.std.specs.Prelude.{◌≡◌, ℕ, ◌+◌, ◌≤◌, true, ◌⊎◌, List, [], ◌∷◌, ◌++◌, length, ◌≢◌}
-use Rattle.std.specs.List.{AllByRecursion as All}
+use Rattle.std.specs.List.{AllByRecursion}
 use Rattle.model.specs.Witnesses.{Contents, valid}
 use Rattle.text.specs.Pieces.{Bytes, Line, lines_text}
 use Rattle.format.specs.Listing.{listing}
@@ -15,7 +15,7 @@ pub record Refused (bs : Bytes) (k : ℕ) : Type 0 where
   pub good : List Bytes
   pub rest : Bytes
   pub split : bs ≡ lines_text good ++ rest
-  pub plain : All Line good
+  pub plain : AllByRecursion Line good
   pub count : k ≡ length good + 1
   pub before : Begins (lines_text good)
   pub here : (l more : Bytes) → Line l → rest ≡ l ++ 10 ∷ more → Begins (lines_text good ++ (l ++ 10 ∷ [])) → ⊥

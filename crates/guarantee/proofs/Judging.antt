@@ -1,7 +1,7 @@
 -- When a close accepts. Assumes nothing.
 use Rattle.std.proofs.Common.{◌≡◌, ℕ, suc, ◌<◌, ◌≤◌, Bool, true, false, cond, not, ltb, ◌⊎◌, List, [], ◌∷◌, Some, None, Option, sym, refl, ap, ◌∙◌, ap₂, inl, inr, arith}
 use Rattle.std.specs.Option.{option_map}
-use Rattle.std.specs.List.{AllByRecursion as All}
+use Rattle.std.specs.List.{AllByRecursion}
 use Rattle.std.proofs.lemmas.Bool.{cond-true, cond-false, and_parts, and_cases, and_from, cases_Bool, both_ways, eqb-true, eq-eqb, false≢true, ltb-false, le-ltb, not_from_true, not-false, and_left, and_right}
 use Rattle.systems.specs.declared.Place.{Place}
 use Rattle.systems.specs.declared.Place.TheVariants.{Letter, Variable}
@@ -51,15 +51,15 @@ pub side_itself : (s : Side) → same_side s s ≡ true
 side_itself [] = refl
 side_itself (p ∷ s) = and_from (same_place p p) (same_side s s) (place_itself p) (side_itself s)
 
-none_differs : (i : ℕ) (E : List Equation) → first_differing i E ≡ None → All SameSides E
+none_differs : (i : ℕ) (E : List Equation) → first_differing i E ≡ None → AllByRecursion SameSides E
 none_differs i [] e = tt
 none_differs i (eq ∷ E) e = go (λ f. none_differs (suc i) E f) (same_side eq.0 eq.1) refl e
   where
-    go : (first_differing (suc i) E ≡ None → All SameSides E) → (t : Bool) → same_side eq.0 eq.1 ≡ t → cond t (first_differing (suc i) E) (Some i) ≡ None → All SameSides (eq ∷ E)
+    go : (first_differing (suc i) E ≡ None → AllByRecursion SameSides E) → (t : Bool) → same_side eq.0 eq.1 ≡ t → cond t (first_differing (suc i) E) (Some i) ≡ None → AllByRecursion SameSides (eq ∷ E)
     go more true is f = (side_same eq.0 eq.1 is, more f)
     go more false is f = let z : ◌≡◌ {A = ℕ} 0 1 = cc in absurd (omega arith)
 
-pub no_difference : (i : ℕ) (E : List Equation) → All SameSides E → first_differing i E ≡ None
+pub no_difference : (i : ℕ) (E : List Equation) → AllByRecursion SameSides E → first_differing i E ≡ None
 no_difference i [] h = refl
 no_difference i (e ∷ E) h = cond-true (same_side e.0 e.1) (first_differing (suc i) E) (Some i) (ap (same_side e.0) (sym h.0) ∙ side_itself e.0) ∙ no_difference (suc i) E h.1
 
@@ -67,7 +67,7 @@ no_difference i (e ∷ E) h = cond-true (same_side e.0 e.1) (first_differing (su
 pub record Accepted {V : Type 0} (m : Meaning V) (system : ℕ → Bool) (S : Standing) (room : ℕ) : Type 0 where
   pub fits : fresh S ≤ room
   pub none_live : NoneLive S
-  pub same : All SameSides S.equations
+  pub same : AllByRecursion SameSides S.equations
   pub passes : (x : ℕ) → system x ≡ true → m.passes x (value_of m (found_word S x)) ≡ true
 
 module _ {V : Type 0} (m : Meaning V) (system : ℕ → Bool) (S : Standing) (room : ℕ) where

@@ -1,7 +1,7 @@
 -- The witness that a close writes is valid, and has the popped word of each variable of the system. Assumes nothing.
 use Rattle.std.proofs.Common.{◌≡◌, ℕ, zero, suc, ◌+◌, ◌<◌, ◌≤◌, Bool, true, false, cond, ◌&&◌, eqb, ltb, leb, ◌⊎◌, List, [], ◌∷◌, reverse, length, Some, None, sym, refl, ap, ◌∙◌, inl, inr, arith, length-append}
 use lib.ListN.{length-reverse}
-use Rattle.std.specs.List.{flat_map, AllByRecursion as All}
+use Rattle.std.specs.List.{flat_map, AllByRecursion}
 use Rattle.std.specs.Option.{option_map}
 use Rattle.std.proofs.lemmas.Bool.{cond_both, cond-true, cond-false, and_from, both_ways, cases_order, eq-eqb, ne_eqb, lt-ltb, le-ltb, le-leb}
 use Rattle.model.specs.Spelling.{Word, known, spell_word}
@@ -14,7 +14,7 @@ use Rattle.systems.proofs.Whole.{popped_below}
 use Rattle.writing.specs.Writer.{total}
 use Rattle.guarantee.specs.Closing.{found_word, entry, entries, witness}
 
-pub below_all : (k : ℕ) (w : Word) → All (λ l. l < k) w → all_below k w ≡ true
+pub below_all : (k : ℕ) (w : Word) → AllByRecursion (λ l. l < k) w → all_below k w ≡ true
 below_all k [] h = refl
 below_all k (a ∷ w) h = and_from (ltb a k) (all_below k w) (lt-ltb a k h.0) (below_all k w h.1)
 

@@ -1,6 +1,6 @@
 -- What the letters-used kind measures. Assumes nothing.
 use Rattle.std.specs.Prelude.{◌≡◌, ℕ, ◌<◌, true, nat_eq}
-use Rattle.std.specs.List.{AllByRecursion as All}
+use Rattle.std.specs.List.{AllByRecursion}
 use Rattle.model.specs.Spelling.{Word}
 use Rattle.systems.specs.Rows.{any}
 use Rattle.systems.specs.Values.{word_value}
@@ -9,7 +9,7 @@ use Rattle.letters_used.specs.LetterSets.{none, only, union, between}
 
 -- the value of a word over a to z holds a letter exactly when the letter stands in the word
 abbrev pub ValueIsLettersUsed : Type 0
-ValueIsLettersUsed = (w : Word) → All (λ b. b < 26) w → (a : ℕ) → holds (word_value only none union w).bits a ≡ any (nat_eq a) w
+ValueIsLettersUsed = (w : Word) → AllByRecursion (λ b. b < 26) w → (a : ℕ) → holds (word_value only none union w).bits a ≡ any (nat_eq a) w
 
 -- every number of the small set is in the big one
 abbrev pub Within : ℕ → ℕ → Type 0

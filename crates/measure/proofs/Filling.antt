@@ -1,6 +1,6 @@
 -- Tables that are filled rule by rule. Assumes nothing.
 use Rattle.std.proofs.Common.{◌≡◌, ℕ, zero, suc, ◌+◌, ◌-◌, ◌<◌, ◌≤◌, true, false, ◌&&◌, leb, ◌≢◌, List, [], ◌∷◌, ◌++◌, reverse, length, get_or, take, drop, set, sym, refl, ap, ◌∙◌, subst, ⊎_elim, append-nil, arith, take-append-drop, length-take, get_or-set_other, get_or-set_same, below_more}
-use Rattle.std.specs.List.{AllByRecursion as All}
+use Rattle.std.specs.List.{AllByRecursion}
 use Rattle.std.proofs.lemmas.List.{take_more, length-reverse, reverse-append, drop-set-lt, drop-drop}
 use Rattle.std.proofs.lemmas.Bool.{and_parts, and_from, cases_lt, le-leb, lt-leb, leb-true}
 use Rattle.model.specs.declared.Rule.{Rule}
@@ -105,19 +105,19 @@ module _ {V : Type 0} (letter : ℕ → V) {empty : V} {join : V → V → V} (a
   letters_filled t is a lt = is a lt ∙ sym ((values_of letter empty join assoc neutral).of_a_to_z [] a lt)
 
   -- the values in a filled table are those of what known letters spell
-  table_word : (rules : List Rule) (t : List V) (w : Word) → Filled letter empty join rules t → All (λ a. a < known rules) w → table_value empty join t w ≡ word_value (λ a. word_value letter empty join (spell rules a)) empty join w
+  table_word : (rules : List Rule) (t : List V) (w : Word) → Filled letter empty join rules t → AllByRecursion (λ a. a < known rules) w → table_value empty join t w ≡ word_value (λ a. word_value letter empty join (spell rules a)) empty join w
   table_word rules t [] filled all = refl
   table_word rules t (a ∷ w) filled all =
       ap (λ x. join x (table_value empty join t w)) (filled a all.0) ∙ ap (join (word_value letter empty join (spell rules a))) (table_word rules t w filled all.1)
 
-  pub table_spells : (rules : List Rule) (t : List V) (w : Word) → Filled letter empty join rules t → All (λ a. a < known rules) w → table_value empty join t w ≡ word_value letter empty join (spell_word rules w)
+  pub table_spells : (rules : List Rule) (t : List V) (w : Word) → Filled letter empty join rules t → AllByRecursion (λ a. a < known rules) w → table_value empty join t w ≡ word_value letter empty join (spell_word rules w)
   table_spells rules t w filled all = table_word rules t w filled all ∙ sym ((values_of letter empty join assoc neutral).of_word rules w)
 
-  low_copies : (k a n : ℕ) → a < k → All (λ b. b < k) (copies n (a ∷ []))
+  low_copies : (k a n : ℕ) → a < k → AllByRecursion (λ b. b < k) (copies n (a ∷ []))
   low_copies k a zero lt = tt
   low_copies k a (suc n) lt = (lt, low_copies k a n lt)
 
-  low_for : (k : ℕ) (rule : Rule) → lower k rule ≡ true → All (λ b. b < k) (word_for rule)
+  low_for : (k : ℕ) (rule : Rule) → lower k rule ≡ true → AllByRecursion (λ b. b < k) (word_for rule)
   low_for k (Pair a b) low = let p = pair_lower k a b low in (p.0, (p.1, tt))
   low_for k (Block a n) low = low_copies k a n (block_lower k a n low)
 

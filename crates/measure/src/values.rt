@@ -1,7 +1,7 @@
 // Values of words and of what letters spell, for every kind.
 
 ghost use Rattle.std.specs.Prelude.{◌≡◌, ℕ, ◌+◌, ◌^◌, ◌<◌, ◌≤◌, true, false, List, reverse, length, get_or, drop, slice_index_or};
-ghost use Rattle.std.specs.List.{AllByRecursion as All};
+ghost use Rattle.std.specs.List.{AllByRecursion};
 ghost use Rattle.model.specs.Spelling.{known, spell_word};
 ghost use Rattle.model.specs.Witnesses.{lower};
 ghost use Rattle.systems.specs.Values.{rule_value, times, word_value};
@@ -26,7 +26,7 @@ fn value_at<K: Measure>(kind: &K, table: &[K::Value], letter: u16) -> K::Value
 // The value of a word, where the table has the values of its letters. Over a filled table it is the value of what the word spells.
 pub fn word_value<K: Measure>(kind: &K, table: &[K::Value], word: &[u16]) -> K::Value
     ensures by_table { result ≡ table_value (K.nothing kind.now) (K.joined kind.now) table.now word.now }
-    ensures by_spelling { let k = kind.now in (rules : List Rule) → Filled (K.single k) (K.nothing k) (K.joined k) rules table.now → All (λ a. a < known rules) word.now → result ≡ word_value (K.single k) (K.nothing k) (K.joined k) (spell_word rules word.now) }
+    ensures by_spelling { let k = kind.now in (rules : List Rule) → Filled (K.single k) (K.nothing k) (K.joined k) rules table.now → AllByRecursion (λ a. a < known rules) word.now → result ≡ word_value (K.single k) (K.nothing k) (K.joined k) (spell_word rules word.now) }
 {
     let mut value = kind.empty();
     for letter in word {

@@ -1,6 +1,6 @@
 -- Rules that fit: what each keeps, how long letters get, and that a letter spells what its rule says. Assumes nothing.
 use Rattle.std.proofs.Common.{◌≡◌, ℕ, zero, suc, ◌+◌, ◌-◌, ◌*◌, ◌^◌, ◌<◌, ◌≤◌, Bool, true, false, cond, not, ◌&&◌, eqb, ltb, leb, ◌⊎◌, List, [], ◌∷◌, ◌++◌, reverse, length, get_or, Some, None, Option, sym, refl, ap, ◌∙◌, subst, ap₂, inl, inr, ⊎_elim, arith, lit≤, length-append}
-use Rattle.std.specs.List.{AllByRecursion as All}
+use Rattle.std.specs.List.{AllByRecursion}
 use Rattle.std.proofs.lemmas.List.{length-reverse, reverse-append, get_or-reverse}
 use Rattle.std.proofs.lemmas.Bool.{and_parts, and_from, ltb-true, ltb-false, leb-true, leb-false, lt-ltb, le-leb, le-ltb, lt-leb, cond-true, cond-false, cond_both, cases_Bool, cases_lt, eqb-true, eqb-false, eq-eqb, ne_eqb}
 use Rattle.model.specs.declared.Rule.{Rule}
@@ -65,15 +65,15 @@ spell_word_short rules [] h = lit≤ tt
 spell_word_short rules (a ∷ w) h = omega (arith, length-append (spell rules a) (spell_word rules w), spell_short rules h a, spell_word_short rules w h)
 
 -- something that holds of what the letters below n spell holds of what a rule of such letters spells
-all_append : (P : ℕ → Type 0) (v w : Word) → All P v → All P w → All P (v ++ w)
+all_append : (P : ℕ → Type 0) (v w : Word) → AllByRecursion P v → AllByRecursion P w → AllByRecursion P (v ++ w)
 all_append P [] w h k = k
 all_append P (a ∷ v) w h k = (h.0, all_append P v w h.1 k)
 
-all_copies : (P : ℕ → Type 0) (n : ℕ) (w : Word) → All P w → All P (copies n w)
+all_copies : (P : ℕ → Type 0) (n : ℕ) (w : Word) → AllByRecursion P w → AllByRecursion P (copies n w)
 all_copies P zero w h = tt
 all_copies P (suc n) w h = all_append P w (copies n w) h (all_copies P n w h)
 
-all_expand : (P : ℕ → Type 0) (n : ℕ) (of : ℕ → Word) (rule : Rule) → lower n rule ≡ true → ((c : ℕ) → c < n → All P (of c)) → All P (expand of rule)
+all_expand : (P : ℕ → Type 0) (n : ℕ) (of : ℕ → Word) (rule : Rule) → lower n rule ≡ true → ((c : ℕ) → c < n → AllByRecursion P (of c)) → AllByRecursion P (expand of rule)
 all_expand P n of (Pair a b) low each = let p = pair_lower n a b low in all_append P (of a) (of b) (each a p.0) (each b p.1)
 all_expand P n of (Block a k) low each = all_copies P k (of a) (each a (block_lower n a k low))
 
@@ -81,7 +81,7 @@ pub spell_basic : SpellingEndsInAToZ
 spell_basic [] c h lt = (lt, tt)
 spell_basic (rule ∷ older) c h lt =
     let p = newest_fits rule older h in
-    cond_both (eqb c (known older)) (expand (spell older) rule) (spell older c) (All (λ a. a < 26))
+    cond_both (eqb c (known older)) (expand (spell older) rule) (spell older c) (AllByRecursion (λ a. a < 26))
     (λ _. all_expand (λ a. a < 26) (known older) (spell older) rule p.0.low (λ d. spell_basic older d p.1))
     (λ e. spell_basic older c p.1 (under e))
   where

@@ -1,6 +1,6 @@
 -- The laws of spelling. Assumes nothing.
 use Rattle.std.specs.Prelude.{◌≡◌, ℕ, ◌+◌, ◌*◌, ◌<◌, true, List, ◌∷◌, ◌++◌, length}
-use Rattle.std.specs.List.{AllByRecursion as All}
+use Rattle.std.specs.List.{AllByRecursion}
 use Rattle.model.specs.declared.Rule.{Rule}
 use Rattle.model.specs.declared.Rule.TheVariants.{Pair, Block}
 use Rattle.model.specs.Spelling.{known, spell}
@@ -18,4 +18,4 @@ pub record LengthsFollowRules : Type 0 where
 
 -- what a known letter spells is over a to z
 abbrev pub SpellingEndsInAToZ : Type 0
-SpellingEndsInAToZ = (rules : List Rule) (c : ℕ) → rules_fit rules ≡ true → c < known rules → All (λ a. a < 26) (spell rules c)
+SpellingEndsInAToZ = (rules : List Rule) (c : ℕ) → rules_fit rules ≡ true → c < known rules → AllByRecursion (λ a. a < 26) (spell rules c)

@@ -1,6 +1,6 @@
 -- What is sought in the sides: the first variable, and the first equation whose sides differ. Assumes nothing.
 use Rattle.std.specs.Prelude.{◌≡◌, ℕ, ◌-◌, ◌<◌, ◌≤◌, Bool, true, false, cond, List, [], ◌∷◌, length, take, Some, None, Option, ◌==◌, nat_lt, slice_index_or}
-use Rattle.std.specs.List.{AllByRecursion as All}
+use Rattle.std.specs.List.{AllByRecursion}
 use Rattle.systems.specs.declared.Place.TheVariants.{Letter, Variable}
 use Rattle.systems.specs.Sides.{Side, Equation, SameSides}
 use Rattle.sides.specs.declared.mark.Mark.{Mark}
@@ -13,8 +13,8 @@ First (Some x) p = (p x ≡ true) × ((y : ℕ) → y < x → p y ≡ false)
 
 -- the equation of this number, from 1, is the first whose sides differ, or none is
 abbrev pub FirstUnequal : Option ℕ → List Equation → Type 0
-FirstUnequal None equations = All SameSides equations
-FirstUnequal (Some k) equations = (1 ≤ k) × (k ≤ length equations) × All SameSides (take (k - 1) equations) × (SameSides (slice_index_or equations (k - 1) ([], [])) → ⊥)
+FirstUnequal None equations = AllByRecursion SameSides equations
+FirstUnequal (Some k) equations = (1 ≤ k) × (k ≤ length equations) × AllByRecursion SameSides (take (k - 1) equations) × (SameSides (slice_index_or equations (k - 1) ([], [])) → ⊥)
 
 -- the variable that stands here, if it is one of A to Z
 abbrev pub variable_at : Mark → Option ℕ

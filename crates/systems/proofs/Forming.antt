@@ -1,6 +1,6 @@
 -- Every run keeps the letters known, the rules fitting and the limits. Assumes nothing.
 use Rattle.std.proofs.Common.{◌≡◌, ℕ, suc, ◌+◌, ◌-◌, ◌<◌, ◌≤◌, Bool, true, cond, not, ◌&&◌, eqb, leb, List, [], ◌∷◌, ◌++◌, length, replicate, Some, None, sym, refl, ap, subst, ⊎_elim, arith, lit≤, length-append}
-use Rattle.std.specs.List.{AllByRecursion as All}
+use Rattle.std.specs.List.{AllByRecursion}
 use Rattle.std.proofs.lemmas.List.{length-replicate}
 use Rattle.std.proofs.ByRecursion.{All-append, All-weaker}
 use Rattle.std.proofs.lemmas.Bool.{true≢false, ltb-false, leb-true, leb-false, eqb-true, and_parts, and_from, or_cases, cond_both}
@@ -69,13 +69,13 @@ length_on f (e ∷ E) = ap suc (length_on f E)
 
 -- a variable that stands in known places is one of A to Z
 
-any_all : {A R : Type 0} (p : A → Bool) (Q : A → Type 0) → ((x : A) → p x ≡ true → Q x → R) → (xs : List A) → any p xs ≡ true → All Q xs → R
+any_all : {A R : Type 0} (p : A → Bool) (Q : A → Type 0) → ((x : A) → p x ≡ true → Q x → R) → (xs : List A) → any p xs ≡ true → AllByRecursion Q xs → R
 any_all p Q found [] e h = absurd (true≢false (sym e))
 any_all {A} {R} p Q found (x ∷ xs) e h = ⊎_elim (λ (here : p x ≡ true). found x here h.0) (λ (later : any p xs ≡ true). any_all p Q found xs later h.1) (or_cases (p x) (any p xs) e)
 
 live_low : (S : Standing) → WellFormed S → (x : ℕ) → live S x ≡ true → x < 26
 live_low S formed x alive =
-    any_all (any (is_variable x)) (All (KnownPlace (fresh S))) (λ s e h. any_all (is_variable x) (KnownPlace (fresh S)) at s e h) (sides S.equations) alive formed.known_places
+    any_all (any (is_variable x)) (AllByRecursion (KnownPlace (fresh S))) (λ s e h. any_all (is_variable x) (KnownPlace (fresh S)) at s e h) (sides S.equations) alive formed.known_places
   where
     at : (p : Place) → is_variable x p ≡ true → KnownPlace (fresh S) p → x < 26
     at (Letter a) e h = absurd (true≢false (sym e))
@@ -91,19 +91,19 @@ pop_more : (k m : ℕ) → k ≤ m → (p : Pop) → KnownPop k p → KnownPop m
 pop_more k m le (AtLeft x a) h = (h.0, omega (arith, h.1))
 pop_more k m le (AtRight x a) h = (h.0, omega (arith, h.1))
 
-swap_known : (k x : ℕ) (v : Side) → All (KnownPlace k) v → (s : Side) → All (KnownPlace k) s → All (KnownPlace k) (swap x v s)
+swap_known : (k x : ℕ) (v : Side) → AllByRecursion (KnownPlace k) v → (s : Side) → AllByRecursion (KnownPlace k) s → AllByRecursion (KnownPlace k) (swap x v s)
 swap_known k x v in_v s h = all_joined (KnownPlace k) (KnownPlace k) (swapped x v) at s h
   where
-    at : (p : Place) → KnownPlace k p → All (KnownPlace k) (swapped x v p)
+    at : (p : Place) → KnownPlace k p → AllByRecursion (KnownPlace k) (swapped x v p)
     at (Letter a) h = (h, tt)
-    at (Variable y) h = cond_both (eqb x y) v (Variable y ∷ []) (All (KnownPlace k)) (λ _. in_v) (λ _. (h, tt))
+    at (Variable y) h = cond_both (eqb x y) v (Variable y ∷ []) (AllByRecursion (KnownPlace k)) (λ _. in_v) (λ _. (h, tt))
 
 -- a pop, where each place of x becomes the row v
-pop_formed : (S : Standing) (x a : ℕ) (v : Side) (pop : Pop) → WellFormed S → MayPop S x a (places (on_sides (swap x v) S.equations)) → (x < 26 → All (KnownPlace (fresh S)) v) → (x < 26 → KnownPop (fresh S) pop) → WellFormed (record { equations = on_sides (swap x v) S.equations; rules = S.rules; pops = S.pops ++ (pop ∷ []) })
+pop_formed : (S : Standing) (x a : ℕ) (v : Side) (pop : Pop) → WellFormed S → MayPop S x a (places (on_sides (swap x v) S.equations)) → (x < 26 → AllByRecursion (KnownPlace (fresh S)) v) → (x < 26 → KnownPop (fresh S) pop) → WellFormed (record { equations = on_sides (swap x v) S.equations; rules = S.rules; pops = S.pops ++ (pop ∷ []) })
 pop_formed S x a v pop formed may in_v in_pop =
     let one : x < 26 = live_low S formed x may.alive in
     record {
-      known_places = all_sides (All (KnownPlace (fresh S))) (All (KnownPlace (fresh S))) (swap x v) (swap_known (fresh S) x v (in_v one)) S.equations formed.known_places;
+      known_places = all_sides (AllByRecursion (KnownPlace (fresh S))) (AllByRecursion (KnownPlace (fresh S))) (swap x v) (swap_known (fresh S) x v (in_v one)) S.equations formed.known_places;
       known_pops = All-append (KnownPop (fresh S)) S.pops (pop ∷ []) formed.known_pops (in_pop one, tt);
       fitting_rules = formed.fitting_rules;
       few_rules = formed.few_rules;
@@ -113,14 +113,14 @@ pop_formed S x a v pop formed may in_v in_pop =
     }
 
 -- a rule, where f replaces what it stands for
-rule_formed : (S : Standing) (made : Rule) (f : Side → Side) → WellFormed S → FitsAfter S.rules made → ((s : Side) → length (f s) ≤ length s) → ((s : Side) → All (KnownPlace (known (made ∷ S.rules))) s → All (KnownPlace (known (made ∷ S.rules))) (f s)) → WellFormed (record { equations = on_sides f S.equations; rules = made ∷ S.rules; pops = S.pops ++ [] })
+rule_formed : (S : Standing) (made : Rule) (f : Side → Side) → WellFormed S → FitsAfter S.rules made → ((s : Side) → length (f s) ≤ length s) → ((s : Side) → AllByRecursion (KnownPlace (known (made ∷ S.rules))) s → AllByRecursion (KnownPlace (known (made ∷ S.rules))) (f s)) → WellFormed (record { equations = on_sides f S.equations; rules = made ∷ S.rules; pops = S.pops ++ [] })
 rule_formed S made f formed fit less keeps =
     let k : ℕ = fresh S in
     let m : ℕ = known (made ∷ S.rules) in
     let more : k ≤ m = omega arith in
     let fits : rules_fit (made ∷ S.rules) ≡ true = and_from (rule_fits S.rules made) (rules_fit S.rules) (from_fits S.rules made fit) formed.fitting_rules in
     record {
-      known_places = all_sides (All (KnownPlace k)) (All (KnownPlace m)) f (λ s h. keeps s (All-weaker (KnownPlace k) (KnownPlace m) (place_more k m more) s h)) S.equations formed.known_places;
+      known_places = all_sides (AllByRecursion (KnownPlace k)) (AllByRecursion (KnownPlace m)) f (λ s h. keeps s (All-weaker (KnownPlace k) (KnownPlace m) (place_more k m more) s h)) S.equations formed.known_places;
       known_pops = All-append (KnownPop m) S.pops [] (All-weaker (KnownPop k) (KnownPop m) (pop_more k m more) S.pops formed.known_pops) tt;
       fitting_rules = fits;
       few_rules = rules_few (made ∷ S.rules) fits;
@@ -133,7 +133,7 @@ pub taken_formed : (S : Standing) (choice : Choice) → Allowed S choice → Wel
 taken_formed S (Left x a) ok formed = pop_formed S x a (Letter a ∷ Variable x ∷ []) (AtLeft x a) formed ok (λ one. (ok.low, (one, tt))) (λ one. (one, ok.low))
 taken_formed S (Right x a) ok formed = pop_formed S x a (Variable x ∷ Letter a ∷ []) (AtRight x a) formed ok (λ one. (one, (ok.low, tt))) (λ one. (one, ok.low))
 taken_formed S (Erase x) ok formed = record {
-  known_places = all_sides (All (KnownPlace (fresh S))) (All (KnownPlace (fresh S))) (swap x []) (swap_known (fresh S) x [] tt) S.equations formed.known_places;
+  known_places = all_sides (AllByRecursion (KnownPlace (fresh S))) (AllByRecursion (KnownPlace (fresh S))) (swap x []) (swap_known (fresh S) x [] tt) S.equations formed.known_places;
   known_pops = All-append (KnownPop (fresh S)) S.pops [] formed.known_pops tt;
   fitting_rules = formed.fitting_rules;
   few_rules = formed.few_rules;
@@ -155,14 +155,14 @@ taken_formed S (Block a n) ok formed =
 
 -- one load
 
-byte_known : (k b : ℕ) → 26 ≤ k → All (KnownPlace k) (at_most_one (place_of b))
+byte_known : (k b : ℕ) → 26 ≤ k → AllByRecursion (KnownPlace k) (at_most_one (place_of b))
 byte_known k b le =
-    cond_both (leb 97 b && leb b 122) (Some (Letter (b - 97))) (cond (leb 65 b && leb b 90) (Some (Variable (b - 65))) None) (λ o. All (KnownPlace k) (at_most_one o))
+    cond_both (leb 97 b && leb b 122) (Some (Letter (b - 97))) (cond (leb 65 b && leb b 90) (Some (Variable (b - 65))) None) (λ o. AllByRecursion (KnownPlace k) (at_most_one o))
     (λ e. let p = and_parts (leb 97 b) (leb b 122) e in let top = leb-true b 122 p.1 in (omega arith, tt))
-    (λ _. cond_both (leb 65 b && leb b 90) (Some (Variable (b - 65))) None (λ o. All (KnownPlace k) (at_most_one o))
+    (λ _. cond_both (leb 65 b && leb b 90) (Some (Variable (b - 65))) None (λ o. AllByRecursion (KnownPlace k) (at_most_one o))
     (λ e. let p = and_parts (leb 65 b) (leb b 90) e in let top = leb-true b 90 p.1 in (omega arith, tt)) (λ _. tt))
 
-side_known : (k : ℕ) → 26 ≤ k → (bytes : List ℕ) → All (KnownPlace k) (side_of bytes)
+side_known : (k : ℕ) → 26 ≤ k → (bytes : List ℕ) → AllByRecursion (KnownPlace k) (side_of bytes)
 side_known k le [] = tt
 side_known k le (b ∷ bytes) = All-append (KnownPlace k) (at_most_one (place_of b)) (side_of bytes) (byte_known k b le) (side_known k le bytes)
 
@@ -177,7 +177,7 @@ load_formed S left right free formed =
     let few : length E < 32 = leb-false _ _ q.0 in
     let small : places (E ++ more) ≤ 1024 = ltb-false _ _ r.0 in
     record {
-      known_places = subst (All (All (KnownPlace (fresh S)))) (sym (joined-++ (λ e. e.0 ∷ e.1 ∷ []) E more)) (All-append (All (KnownPlace (fresh S))) (sides E) (side_of left ∷ (side_of right ∷ [])) formed.known_places (side_known (fresh S) le left, (side_known (fresh S) le right, tt)));
+      known_places = subst (AllByRecursion (AllByRecursion (KnownPlace (fresh S)))) (sym (joined-++ (λ e. e.0 ∷ e.1 ∷ []) E more)) (All-append (AllByRecursion (KnownPlace (fresh S))) (sides E) (side_of left ∷ (side_of right ∷ [])) formed.known_places (side_known (fresh S) le left, (side_known (fresh S) le right, tt)));
       known_pops = formed.known_pops;
       fitting_rules = formed.fitting_rules;
       few_rules = formed.few_rules;

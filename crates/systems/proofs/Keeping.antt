@@ -1,7 +1,7 @@
 -- A run whose taken choices fit a solution keeps it. Assumes nothing.
 use Rattle.std.proofs.Common.{◌≡◌, ℕ, ◌<◌, ◌≤◌, true, false, eqb, ◌⊎◌, List, [], ◌∷◌, ◌++◌, map, reverse, sym, refl, ap, ◌∙◌, subst, ap₂, inl, inr, append-nil, arith}
 use mathlib.Core.Path.{fun_ext}
-use Rattle.std.specs.List.{AllByRecursion as All}
+use Rattle.std.specs.List.{AllByRecursion}
 use Rattle.std.proofs.ByRecursion.{All-weaker}
 use Rattle.std.proofs.lemmas.Bool.{both_ways, eqb-true, eqb-false, eq-eqb, ne_eqb, cases_eq, cases_Bool, cond-false}
 use Rattle.model.specs.declared.Rule.{Rule}
@@ -39,7 +39,7 @@ pub record Kept (σ : Words) (S : Standing) (τ : Words) : Type 0 where
   pub solves : Solves τ S.equations
   pub words : (x : ℕ) → whole S τ x ≡ σ x
 
-solves_on : (τ τ' : Words) (f : Side → Side) (G : Word → Word) (E : List Equation) → Solves τ E → All (λ s. fill τ' (f s) ≡ G (fill τ s)) (sides E) → Solves τ' (on_sides f E)
+solves_on : (τ τ' : Words) (f : Side → Side) (G : Word → Word) (E : List Equation) → Solves τ E → AllByRecursion (λ s. fill τ' (f s) ≡ G (fill τ s)) (sides E) → Solves τ' (on_sides f E)
 solves_on τ τ' f G [] h same = tt
 solves_on τ τ' f G (e ∷ E) h same = (same.0 ∙ ap G h.0 ∙ sym same.1.0, solves_on τ τ' f G E h.1 same.1.1)
 
@@ -164,7 +164,7 @@ bare τ [] h = refl
 bare τ (Letter a ∷ s) h = ap (λ r. Letter a ∷ r) (bare τ s (λ x. (h x).1))
 bare τ (Variable y ∷ s) h = absurd (both_ways (eqb y y) (h y).0 (eq-eqb y y refl))
 
-bare_equal : (τ : Words) (E : List Equation) → ((x : ℕ) → All (Gone x) (sides E)) → Solves τ E → All SameSides E
+bare_equal : (τ : Words) (E : List Equation) → ((x : ℕ) → AllByRecursion (Gone x) (sides E)) → Solves τ E → AllByRecursion SameSides E
 bare_equal τ [] h solves = tt
 bare_equal τ (e ∷ E) h solves = (bare τ e.0 (λ x. (h x).0) ∙ ap (map Letter) solves.0 ∙ sym (bare τ e.1 (λ x. (h x).1.0)), bare_equal τ E (λ x. (h x).1.1) solves.1)
 

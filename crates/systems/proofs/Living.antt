@@ -1,6 +1,6 @@
 -- Which variables stand in the sides, and what each choice does to them. Assumes nothing.
 use Rattle.std.proofs.Common.{◌≡◌, ℕ, suc, Bool, true, false, ◌&&◌, ◌||◌, eqb, List, [], ◌∷◌, ◌++◌, map, sym, refl, ap, ◌∙◌, subst, ap₂, ⊎_elim}
-use Rattle.std.specs.List.{flat_map, AllByRecursion as All}
+use Rattle.std.specs.List.{flat_map, AllByRecursion}
 use Rattle.std.proofs.ByRecursion.{All-weaker}
 use Rattle.std.proofs.lemmas.Bool.{true≢false, eqb-true, eq-eqb, and_parts, cases_Bool, or_left, or_right, cond_both}
 use Rattle.systems.specs.declared.Place.{Place}
@@ -15,32 +15,32 @@ use Rattle.systems.proofs.Rows.{joined_same, all_joined, all_each, any_none, non
 
 -- each side in turn
 
-pub all_sides : (P Q : Side → Type 0) (f : Side → Side) → ((s : Side) → P s → Q (f s)) → (E : List Equation) → All P (sides E) → All Q (sides (on_sides f E))
+pub all_sides : (P Q : Side → Type 0) (f : Side → Side) → ((s : Side) → P s → Q (f s)) → (E : List Equation) → AllByRecursion P (sides E) → AllByRecursion Q (sides (on_sides f E))
 all_sides P Q f step [] h = tt
 all_sides P Q f step (e ∷ E) h = (step e.0 h.0, (step e.1 h.1.0, all_sides P Q f step E h.1.1))
 
-pub map_sides : {A : Type 0} (G H : Side → A) (f : Side → Side) (E : List Equation) → All (λ s. G (f s) ≡ H s) (sides E) → map G (sides (on_sides f E)) ≡ map H (sides E)
+pub map_sides : {A : Type 0} (G H : Side → A) (f : Side → Side) (E : List Equation) → AllByRecursion (λ s. G (f s) ≡ H s) (sides E) → map G (sides (on_sides f E)) ≡ map H (sides E)
 map_sides G H f [] h = refl
 map_sides G H f (e ∷ E) h = ap₂ (λ u v. u ∷ v) h.0 (ap₂ (λ u v. u ∷ v) h.1.0 (map_sides G H f E h.1.1))
 
 -- an element that passes a test makes `any` true
-any_of : {A : Type 0} (xs : List A) → All (λ y. (p : A → Bool) → p y ≡ true → any p xs ≡ true) xs
+any_of : {A : Type 0} (xs : List A) → AllByRecursion (λ y. (p : A → Bool) → p y ≡ true → any p xs ≡ true) xs
 any_of [] = tt
 any_of {A} (x ∷ xs) = (
   λ p e. or_left (p x) (any p xs) e,
   All-weaker (λ y. (p : A → Bool) → p y ≡ true → any p xs ≡ true) (λ y. (p : A → Bool) → p y ≡ true → (p x || any p xs) ≡ true) (λ y h p e. or_right (p x) (any p xs) (h p e)) xs (any_of xs),
 )
 
-each_stands : (E : List Equation) → All (All (λ p. (x : ℕ) → is_variable x p ≡ true → stands_in E x ≡ true)) (sides E)
+each_stands : (E : List Equation) → AllByRecursion (AllByRecursion (λ p. (x : ℕ) → is_variable x p ≡ true → stands_in E x ≡ true)) (sides E)
 each_stands E =
-    All-weaker (λ s. (q : Side → Bool) → q s ≡ true → any q (sides E) ≡ true) (All (λ p. (x : ℕ) → is_variable x p ≡ true → stands_in E x ≡ true))
+    All-weaker (λ s. (q : Side → Bool) → q s ≡ true → any q (sides E) ≡ true) (AllByRecursion (λ p. (x : ℕ) → is_variable x p ≡ true → stands_in E x ≡ true))
     (λ s h. All-weaker (λ p. (q : Place → Bool) → q p ≡ true → any q s ≡ true) (λ p. (x : ℕ) → is_variable x p ≡ true → stands_in E x ≡ true) (λ p k x e. h (any (is_variable x)) (k (is_variable x) e)) s (any_of s))
     (sides E) (any_of (sides E))
 
 -- words that agree where a variable stands fill the sides alike
-pub fill_same : (τ τ' : Words) (E : List Equation) → ((x : ℕ) → stands_in E x ≡ true → τ x ≡ τ' x) → All (λ s. fill τ s ≡ fill τ' s) (sides E)
+pub fill_same : (τ τ' : Words) (E : List Equation) → ((x : ℕ) → stands_in E x ≡ true → τ x ≡ τ' x) → AllByRecursion (λ s. fill τ s ≡ fill τ' s) (sides E)
 fill_same τ τ' E same =
-    All-weaker (All (λ p. (x : ℕ) → is_variable x p ≡ true → stands_in E x ≡ true)) (λ s. fill τ s ≡ fill τ' s)
+    All-weaker (AllByRecursion (λ p. (x : ℕ) → is_variable x p ≡ true → stands_in E x ≡ true)) (λ s. fill τ s ≡ fill τ' s)
     (λ s h. joined_same (filled τ) (filled τ') s (All-weaker (λ p. (x : ℕ) → is_variable x p ≡ true → stands_in E x ≡ true) (λ p. filled τ p ≡ filled τ' p) at s h))
     (sides E) (each_stands E)
   where
@@ -118,12 +118,12 @@ live_taken S choice x other = any_sides (any (is_variable x)) (effect choice (fr
 -- a variable that is gone
 
 abbrev pub Gone : ℕ → Side → Type 0
-Gone x side = All (λ p. is_variable x p ≡ false) side
+Gone x side = AllByRecursion (λ p. is_variable x p ≡ false) side
 
-pub gone_everywhere : (S : Standing) (x : ℕ) → live S x ≡ false → All (Gone x) (sides S.equations)
+pub gone_everywhere : (S : Standing) (x : ℕ) → live S x ≡ false → AllByRecursion (Gone x) (sides S.equations)
 gone_everywhere S x e = All-weaker (λ s. any (is_variable x) s ≡ false) (Gone x) (any_none (is_variable x)) (sides S.equations) (any_none (any (is_variable x)) (sides S.equations) e)
 
-gone_live : (S : Standing) (x : ℕ) → All (Gone x) (sides S.equations) → live S x ≡ false
+gone_live : (S : Standing) (x : ℕ) → AllByRecursion (Gone x) (sides S.equations) → live S x ≡ false
 gone_live S x h = none_any (any (is_variable x)) (sides S.equations) (All-weaker (Gone x) (λ s. any (is_variable x) s ≡ false) (none_any (is_variable x)) (sides S.equations) h)
 
 -- one that is erased is gone

@@ -1,6 +1,6 @@
 -- What a side means, with a word for each letter and for each variable, and that replacing keeps it. Assumes nothing.
 use Rattle.std.proofs.Common.{◌≡◌, ℕ, ◌<◌, true, false, eqb, List, [], ◌∷◌, ◌++◌, sym, refl, ap, ◌∙◌, ap₂, append-nil}
-use Rattle.std.specs.List.{flat_map, AllByRecursion as All}
+use Rattle.std.specs.List.{flat_map, AllByRecursion}
 use Rattle.std.proofs.ByRecursion.{All-weaker}
 use Rattle.std.proofs.lemmas.Bool.{true≢false, eqb-true, cond_both}
 use Rattle.model.specs.declared.Rule.{Rule}
@@ -40,7 +40,7 @@ pub is_letter_true : (a : ℕ) (p : Place) → is_letter a p ≡ true → p ≡ 
 is_letter_true a (Letter l) e = ap Letter (eqb-true l a e)
 is_letter_true a (Variable x) e = absurd (true≢false (sym e))
 
-pub pair_means : (older : List Rule) (ψ : Words) (a b : ℕ) (s : Side) → All (KnownPlace (known older)) s → flat_map (meaning (spell (PairRule a b ∷ older)) ψ) (side_pairs a b (known older) s) ≡ flat_map (meaning (spell older) ψ) s
+pub pair_means : (older : List Rule) (ψ : Words) (a b : ℕ) (s : Side) → AllByRecursion (KnownPlace (known older)) s → flat_map (meaning (spell (PairRule a b ∷ older)) ψ) (side_pairs a b (known older) s) ≡ flat_map (meaning (spell older) ψ) s
 pair_means older ψ a b s h =
     let f : Place → Word = meaning (spell older) ψ in
     let g : Place → Word = meaning (spell (PairRule a b ∷ older)) ψ in
@@ -48,7 +48,7 @@ pair_means older ψ a b s h =
     (λ x y ex ey. spell_newest (PairRule a b) older ∙ sym (ap₂ (λ u v. f u ++ f v) (is_letter_true a x ex) (is_letter_true b y ey)))
     s (All-weaker (KnownPlace (known older)) (λ p. g p ≡ f p) (meaning_older older (PairRule a b ∷ older) ψ (spell_older (PairRule a b) older)) s h)
 
-pub block_means : (older : List Rule) (ψ : Words) (a n : ℕ) → a < known older → (s : Side) → All (KnownPlace (known older)) s → flat_map (meaning (spell (BlockRule a n ∷ older)) ψ) (side_blocks a n (known older) s) ≡ flat_map (meaning (spell older) ψ) s
+pub block_means : (older : List Rule) (ψ : Words) (a n : ℕ) → a < known older → (s : Side) → AllByRecursion (KnownPlace (known older)) s → flat_map (meaning (spell (BlockRule a n ∷ older)) ψ) (side_blocks a n (known older) s) ≡ flat_map (meaning (spell older) ψ) s
 block_means older ψ a n low s h =
     let f : Place → Word = meaning (spell older) ψ in
     let g : Place → Word = meaning (spell (BlockRule a n ∷ older)) ψ in

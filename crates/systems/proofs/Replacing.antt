@@ -1,6 +1,6 @@
 -- Two rows are replaced apart where no pair and no block reaches from one into the other. Assumes nothing.
 use Rattle.std.proofs.Common.{◌≡◌, ℕ, zero, suc, ◌+◌, ◌≤◌, Bool, true, false, ◌&&◌, eqb, List, [], ◌∷◌, ◌++◌, replicate, sym, refl, ap, ◌∙◌, ap₂, append_assoc, append-nil, arith}
-use Rattle.std.specs.List.{AllByRecursion as All}
+use Rattle.std.specs.List.{AllByRecursion}
 use Rattle.std.proofs.lemmas.Bool.{ne_eqb, and_parts, cond-true, cond-false, cond_both}
 use Rattle.systems.specs.Fitting.{EndsWith, BeginsWith}
 use Rattle.systems.specs.Rows.{replace_pairs, row, replace_blocks}
@@ -81,6 +81,6 @@ module _ {A : Type 0} (is_a : A → Bool) (a : A) (n : ℕ) (c : A) (some : 1 �
   pub row_alone : is_a a ≡ true → (k : ℕ) → blocked 0 (replicate k a) ≡ row a n c k
   row_alone is k = blocks_row is k 0 ∙ ap (row a n c) (omega arith)
 
-  pub blocks_none : (xs : List A) → All (λ x. is_a x ≡ false) xs → blocked 0 xs ≡ xs
+  pub blocks_none : (xs : List A) → AllByRecursion (λ x. is_a x ≡ false) xs → blocked 0 xs ≡ xs
   blocks_none [] h = row_zero
   blocks_none (x ∷ xs) h = cond-false (is_a x) (blocked 1 xs) (row a n c 0 ++ (x ∷ blocked 0 xs)) h.0 ∙ ap₂ (λ u v. u ++ (x ∷ v)) row_zero (blocks_none xs h.1)

@@ -1,7 +1,7 @@
 -- Each side of what stands means what the loaded side means, with the whole words. Assumes nothing.
 use Rattle.std.proofs.Common.{◌≡◌, ℕ, true, false, cond, eqb, List, [], ◌∷◌, ◌++◌, map, sym, refl, ap, ◌∙◌, subst, ap₂, append-nil, arith}
 use mathlib.Core.Path.{fun_ext}
-use Rattle.std.specs.List.{flat_map, AllByRecursion as All}
+use Rattle.std.specs.List.{flat_map, AllByRecursion}
 use Rattle.std.proofs.ByRecursion.{All-weaker}
 use Rattle.std.proofs.lemmas.Bool.{both_ways, eqb-true, eq-eqb, cond-true, cond-false, cond_both}
 use Rattle.model.specs.declared.Rule.TheVariants.{Pair as PairRule, Block as BlockRule}
@@ -35,7 +35,7 @@ DeadEmpty S ψ = (x : ℕ) → live S x ≡ false → ψ x ≡ []
 abbrev Means : List Equation → Standing → Type 0
 Means E S = (ψ : Words) → DeadEmpty S ψ → map (mean S ψ) (sides S.equations) ≡ map (fill (assembled S ψ)) (sides E)
 
-carry : (E : List Equation) (S : Standing) (choice : Choice) (ψ ψ' : Words) → Means E S → DeadEmpty S ψ → All (λ s. mean (taken S choice) ψ' (effect choice (fresh S) s) ≡ mean S ψ s) (sides S.equations) → ((y : ℕ) → assembled (taken S choice) ψ' y ≡ assembled S ψ y) → map (mean (taken S choice) ψ') (sides (taken S choice).equations) ≡ map (fill (assembled (taken S choice) ψ')) (sides E)
+carry : (E : List Equation) (S : Standing) (choice : Choice) (ψ ψ' : Words) → Means E S → DeadEmpty S ψ → AllByRecursion (λ s. mean (taken S choice) ψ' (effect choice (fresh S) s) ≡ mean S ψ s) (sides S.equations) → ((y : ℕ) → assembled (taken S choice) ψ' y ≡ assembled S ψ y) → map (mean (taken S choice) ψ') (sides (taken S choice).equations) ≡ map (fill (assembled (taken S choice) ψ')) (sides E)
 carry E S choice ψ ψ' means dead same words =
     map_sides (mean (taken S choice) ψ') (mean S ψ) (effect choice (fresh S)) S.equations same ∙ means ψ dead ∙
     ap (λ (w : Words). map (fill w) (sides E)) (sym (fun_ext words))
@@ -85,14 +85,14 @@ means_taken E S (Erase x) ok formed means ψ' dead =
     (rules_assembled S formed S.rules (λ _ _. refl) ψ')
 means_taken E S (Pair a b) ok formed means ψ' dead =
     carry E S (Pair a b) ψ' ψ' means (λ y gone. dead y (gone_taken S (Pair a b) y gone))
-    (All-weaker (All (KnownPlace (fresh S))) (λ s. mean (taken S (Pair a b)) ψ' (effect (Pair a b) (fresh S) s) ≡ mean S ψ' s) (pair_means S.rules ψ' a b) (sides S.equations) formed.known_places)
+    (All-weaker (AllByRecursion (KnownPlace (fresh S))) (λ s. mean (taken S (Pair a b)) ψ' (effect (Pair a b) (fresh S) s) ≡ mean S ψ' s) (pair_means S.rules ψ' a b) (sides S.equations) formed.known_places)
     (rules_assembled S formed (PairRule a b ∷ S.rules) (spell_older (PairRule a b) S.rules) ψ')
 means_taken E S (Block a n) ok formed means ψ' dead =
     carry E S (Block a n) ψ' ψ' means (λ y gone. dead y (gone_taken S (Block a n) y gone))
-    (All-weaker (All (KnownPlace (fresh S))) (λ s. mean (taken S (Block a n)) ψ' (effect (Block a n) (fresh S) s) ≡ mean S ψ' s) (block_means S.rules ψ' a n (block_lower (fresh S) a n ok.low)) (sides S.equations) formed.known_places)
+    (All-weaker (AllByRecursion (KnownPlace (fresh S))) (λ s. mean (taken S (Block a n)) ψ' (effect (Block a n) (fresh S) s) ≡ mean S ψ' s) (block_means S.rules ψ' a n (block_lower (fresh S) a n ok.low)) (sides S.equations) formed.known_places)
     (rules_assembled S formed (BlockRule a n ∷ S.rules) (spell_older (BlockRule a n) S.rules) ψ')
 
-map_same : {A B : Type 0} (f g : A → B) (xs : List A) → All (λ x. f x ≡ g x) xs → map f xs ≡ map g xs
+map_same : {A B : Type 0} (f g : A → B) (xs : List A) → AllByRecursion (λ x. f x ≡ g x) xs → map f xs ≡ map g xs
 map_same f g [] same = refl
 map_same f g (x ∷ xs) same = ap₂ (λ u v. u ∷ v) same.0 (map_same f g xs same.1)
 
@@ -141,7 +141,7 @@ sound loads choices S run τ left =
     (fill_same (whole S τ₀) (whole S τ) E (λ x of. ap (λ w. spell_word S.rules (around S x w)) (same x of)))
 
 -- what is the same on each side of E is the same on each side of E'
-solved_over : (G H : Side → Word) (E E' : List Equation) → map G (sides E) ≡ map H (sides E') → All (λ e. G e.0 ≡ G e.1) E → All (λ e. H e.0 ≡ H e.1) E'
+solved_over : (G H : Side → Word) (E E' : List Equation) → map G (sides E) ≡ map H (sides E') → AllByRecursion (λ e. G e.0 ≡ G e.1) E → AllByRecursion (λ e. H e.0 ≡ H e.1) E'
 solved_over G H [] [] same h = tt
 solved_over G H [] (e' ∷ E') same h = let z : ◌≡◌ {A = ℕ} 0 1 = cc in absurd (omega arith)
 solved_over G H (e ∷ E) [] same h = tt

@@ -1,6 +1,6 @@
 -- When a choice fits the words that are followed beside what stands, and what it leaves of them. Assumes nothing.
 use Rattle.std.specs.Prelude.{◌≡◌, ℕ, ◌<◌, ◌≤◌, true, ◌≢◌, ◌⊎◌, List, [], ◌∷◌, ◌++◌}
-use Rattle.std.specs.List.{AllByRecursion as All}
+use Rattle.std.specs.List.{AllByRecursion}
 use Rattle.systems.specs.declared.Place.TheVariants.{Variable}
 use Rattle.systems.specs.declared.Choice.{Choice}
 use Rattle.systems.specs.declared.Choice.TheVariants.{Left, Right, Erase, Pair, Block}
@@ -25,7 +25,7 @@ pub record Crosses (a b : ℕ) (τ : Words) (side : Side) : Type 0 where
 
 -- no occurrence of ab crosses in any side
 abbrev pub NoneCrosses : ℕ → ℕ → Words → Standing → Type 0
-NoneCrosses a b τ S = All (λ side. Crosses a b τ side → ⊥) (sides S.equations)
+NoneCrosses a b τ S = AllByRecursion (λ side. Crosses a b τ side → ⊥) (sides S.equations)
 
 -- the words τ and τ' differ at x at most
 abbrev pub SameBut : ℕ → Words → Words → Type 0

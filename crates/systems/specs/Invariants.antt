@@ -1,6 +1,6 @@
 -- What every run keeps. Assumes nothing.
 use Rattle.std.specs.Prelude.{◌≡◌, ℕ, ◌<◌, ◌≤◌, true, length}
-use Rattle.std.specs.List.{AllByRecursion as All}
+use Rattle.std.specs.List.{AllByRecursion}
 use Rattle.model.specs.Witnesses.{rules_fit}
 use Rattle.systems.specs.declared.Place.{Place}
 use Rattle.systems.specs.declared.Place.TheVariants.{Letter, Variable}
@@ -21,8 +21,8 @@ KnownPop k (AtRight x a) = (x < 26) × (a < k)
 
 -- every letter is known, the rules fit, and no limit is passed
 pub record WellFormed (S : Standing) : Type 0 where
-  pub known_places : All (All (KnownPlace (fresh S))) (sides S.equations)
-  pub known_pops : All (KnownPop (fresh S)) S.pops
+  pub known_places : AllByRecursion (AllByRecursion (KnownPlace (fresh S))) (sides S.equations)
+  pub known_pops : AllByRecursion (KnownPop (fresh S)) S.pops
   pub fitting_rules : rules_fit S.rules ≡ true
   pub few_rules : length S.rules ≤ 512
   pub few_pops : length S.pops ≤ 1024

@@ -1,6 +1,6 @@
 -- Sides and equations; what a side is with a word for each variable; words that solve equations. Assumes nothing.
 use Rattle.std.specs.Prelude.{◌≡◌, ℕ, ◌+◌, ◌<◌, Bool, false, List, [], ◌∷◌, map, length, ◌==◌, nat_eq}
-use Rattle.std.specs.List.{flat_map, AllByRecursion as All}
+use Rattle.std.specs.List.{flat_map, AllByRecursion}
 use Rattle.model.specs.Spelling.{Word}
 use Rattle.systems.specs.declared.Place.{Place}
 use Rattle.systems.specs.declared.Place.TheVariants.{Letter, Variable}
@@ -56,11 +56,11 @@ fill τ = flat_map (filled τ)
 
 -- the two filled-in sides of every equation are the same word
 abbrev pub Solves : Words → List Equation → Type 0
-Solves τ = All (λ e. fill τ e.0 ≡ fill τ e.1)
+Solves τ = AllByRecursion (λ e. fill τ e.0 ≡ fill τ e.1)
 
 -- the letters of the word are below k
 abbrev pub Below : ℕ → Word → Type 0
-Below k = All (λ a. a < k)
+Below k = AllByRecursion (λ a. a < k)
 
 -- words over a to z, perhaps empty, perhaps with letters that the equations lack, that solve them
 pub record Solution (σ : Words) (equations : List Equation) : Type 0 where

@@ -1,6 +1,6 @@
 -- The theorems. Assumes nothing.
 use Rattle.std.specs.Prelude.{◌≡◌, ℕ, ◌<◌, ◌≤◌, true, false, ◌≢◌, List, [], ◌∷◌, ◌++◌, map, replicate, Some, None, Option}
-use Rattle.std.specs.List.{AllByRecursion as All}
+use Rattle.std.specs.List.{AllByRecursion}
 use Rattle.model.specs.declared.Rule.{Rule}
 use Rattle.model.specs.Spelling.{Word, spell, spell_word, rule_of}
 use Rattle.model.specs.Witnesses.{rules_fit}
@@ -37,7 +37,7 @@ pub record ReplacingIsExact : Type 0 where
   pub row_of_n : (a n c : ℕ) (before behind : Side) → 1 ≤ n → (EndsWith (Letter a) before → ⊥) → (BeginsWith (Letter a) behind → ⊥) → side_blocks a n c (before ++ (replicate n (Letter a) ++ behind)) ≡ side_blocks a n c before ++ (Letter c ∷ side_blocks a n c behind)
   pub other_row : (a n c k : ℕ) (before behind : Side) → 1 ≤ n → k ≢ n → (EndsWith (Letter a) before → ⊥) → (BeginsWith (Letter a) behind → ⊥) → side_blocks a n c (before ++ (replicate k (Letter a) ++ behind)) ≡ side_blocks a n c before ++ (replicate k (Letter a) ++ side_blocks a n c behind)
   -- and a side without a stays
-  pub no_row : (a n c : ℕ) (side : Side) → 1 ≤ n → All (λ place. place ≢ Letter a) side → side_blocks a n c side ≡ side
+  pub no_row : (a n c : ℕ) (side : Side) → 1 ≤ n → AllByRecursion (λ place. place ≢ Letter a) side → side_blocks a n c side ≡ side
 
 -- `Crosses` says what it should: some occurrence of ab in the filled-in side comes neither from one place nor from two letters in neighbouring places
 abbrev pub CrossingIsAnOccurrence : Type 0
@@ -58,7 +58,7 @@ Sound =
 abbrev pub SoundAtEnd : Type 0
 SoundAtEnd =
     (loads : List Load) (choices : List Choice) (S : Standing) → Reaches loads choices S →
-    ((x : ℕ) → live S x ≡ false) → All SameSides S.equations →
+    ((x : ℕ) → live S x ≡ false) → AllByRecursion SameSides S.equations →
     Solution (λ x. spell_word S.rules (popped_word S x)) (loaded loads)
 
 -- no refusal, or one of 21 to 24
@@ -74,7 +74,7 @@ pub record SolutionKept (loads : List Load) (choices : List Choice) (S : Standin
   pub nothing_left : NothingLeft loads S τ
   pub whole_words : (x : ℕ) → whole S τ x ≡ σ x
   pub no_needless_refusal : (choice : Choice) (τ' : Words) → Fits S τ choice τ' → ByLimit (choice_refusal S choice)
-  pub same_sides : ((x : ℕ) → live S x ≡ false) → All SameSides S.equations
+  pub same_sides : ((x : ℕ) → live S x ≡ false) → AllByRecursion SameSides S.equations
   pub same_words : ((x : ℕ) → live S x ≡ false) → (x : ℕ) → OfSystem loads x → spell_word S.rules (popped_word S x) ≡ σ x
 
 -- A run whose taken choices fit a solution keeps it

@@ -1,6 +1,6 @@
 -- Bytes cut at a byte that the parts do not have. Assumes nothing.
 use Rattle.std.proofs.Common.{◌≡◌, ℕ, true, not, eqb, List, [], ◌∷◌, ◌++◌, sym, refl, ap, ◌∙◌, append_assoc, append-nil, arith}
-use Rattle.std.specs.List.{AllByRecursion as All}
+use Rattle.std.specs.List.{AllByRecursion}
 use Rattle.std.proofs.lemmas.Bool.{and_parts, and_from, not-true, eqb-false, ne_eqb, not_from_false}
 use Rattle.text.specs.Pieces.{Bytes, between, free, Line, lines_text}
 
@@ -36,7 +36,7 @@ same_cut b (c ∷ p) (d ∷ q) r s hp hq e =
     (cc, both.1)
 
 -- parts that lack the byte between them are known from the whole
-pub same_between : (b : ℕ) (p q : Bytes) (ps qs : List Bytes) → free b p ≡ true → free b q ≡ true → All (λ l. free b l ≡ true) ps → All (λ l. free b l ≡ true) qs → between b p ps ≡ between b q qs → (p ≡ q) × (ps ≡ qs)
+pub same_between : (b : ℕ) (p q : Bytes) (ps qs : List Bytes) → free b p ≡ true → free b q ≡ true → AllByRecursion (λ l. free b l ≡ true) ps → AllByRecursion (λ l. free b l ≡ true) qs → between b p ps ≡ between b q qs → (p ≡ q) × (ps ≡ qs)
 same_between b p q [] [] hp hq hps hqs e = (e, refl)
 same_between b p q [] (q' ∷ qs) hp hq hps hqs e = absurd (no_cut b p q (between b q' qs) hp e)
 same_between b p q (p' ∷ ps) [] hp hq hps hqs e = absurd (no_cut b q p (between b p' ps) hq (sym e))
@@ -48,12 +48,12 @@ same_between b p q (p' ∷ ps) (q' ∷ qs) hp hq hps hqs e =
     (both.0, cc)
 
 -- what the parts lack, and is not between them, the whole lacks
-pub free_between : (b c : ℕ) (p : Bytes) (ps : List Bytes) → (c ≡ b → ⊥) → free b p ≡ true → All (λ l. free b l ≡ true) ps → free b (between c p ps) ≡ true
+pub free_between : (b c : ℕ) (p : Bytes) (ps : List Bytes) → (c ≡ b → ⊥) → free b p ≡ true → AllByRecursion (λ l. free b l ≡ true) ps → free b (between c p ps) ≡ true
 free_between b c p [] n hp hps = hp
 free_between b c p (q ∷ qs) n hp hps = free_append b p (c ∷ between c q qs) hp (free_cons b c (between c q qs) n (free_between b c q qs n hps.0 hps.1))
 
 -- lines that stand at the start of a text are its first lines
-pub first_lines : (ks ls : List Bytes) (rest : Bytes) → All Line ks → All Line ls → lines_text ks ≡ lines_text ls ++ rest → (more : List Bytes) × (ks ≡ ls ++ more) × (rest ≡ lines_text more)
+pub first_lines : (ks ls : List Bytes) (rest : Bytes) → AllByRecursion Line ks → AllByRecursion Line ls → lines_text ks ≡ lines_text ls ++ rest → (more : List Bytes) × (ks ≡ ls ++ more) × (rest ≡ lines_text more)
 first_lines ks [] rest hk hl e = (ks, refl, sym e)
 first_lines [] ([] ∷ ls) rest hk hl e = absurd (let z : ◌≡◌ {A = ℕ} 0 1 = cc in omega arith)
 first_lines [] ((c ∷ l) ∷ ls) rest hk hl e = absurd (let z : ◌≡◌ {A = ℕ} 0 1 = cc in omega arith)
@@ -74,7 +74,7 @@ no_lines ([] ∷ ls) e = absurd (let z : ◌≡◌ {A = ℕ} 0 1 = cc in omega a
 no_lines ((c ∷ l) ∷ ls) e = absurd (let z : ◌≡◌ {A = ℕ} 0 1 = cc in omega arith)
 
 -- lines that have one text are the same
-pub same_lines : (ks ls : List Bytes) → All Line ks → All Line ls → lines_text ks ≡ lines_text ls → ks ≡ ls
+pub same_lines : (ks ls : List Bytes) → AllByRecursion Line ks → AllByRecursion Line ls → lines_text ks ≡ lines_text ls → ks ≡ ls
 same_lines ks ls hk hl e =
     let f = first_lines ks ls [] hk hl (e ∙ sym (append-nil (lines_text ls))) in
     f.1 ∙ ap (λ m. ls ++ m) (no_lines f.0 f.2) ∙ append-nil ls

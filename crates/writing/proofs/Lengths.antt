@@ -1,7 +1,7 @@
 -- The lengths of the blocks are those of the maximal rows. Assumes nothing.
 use Rattle.std.proofs.Common.{◌≡◌, ℕ, zero, suc, ◌+◌, ◌<◌, ◌≤◌, Bool, true, false, cond, eqb, ◌⊎◌, List, [], ◌∷◌, ◌++◌, length, replicate, sym, refl, ap, ◌∙◌, subst, ap₂, inl, inr, append_assoc, arith, length-append}
 use lib.ListN.{length-replicate}
-use Rattle.std.specs.List.{AllByRecursion as All}
+use Rattle.std.specs.List.{AllByRecursion}
 use Rattle.std.proofs.lemmas.Bool.{cond_both, cond-true, cond-false, both_ways, eqb-true, eq-eqb, or_left, or_right, or_cases, false≢true}
 use Rattle.model.specs.Spelling.{Word}
 use Rattle.systems.specs.Fitting.{EndsWith, BeginsWith}
@@ -115,10 +115,10 @@ module _ (a n : ℕ) where
 -- what is kept of rising numbers
 
 module _ (p : ℕ → Bool) where
-  keep_above : (count k j : ℕ) → j < k → All (λ m. j < m) (keep p (from k count))
+  keep_above : (count k j : ℕ) → j < k → AllByRecursion (λ m. j < m) (keep p (from k count))
   keep_above zero k j lt = tt
   keep_above (suc count) k j lt =
-      cond_both (p k) (k ∷ keep p (from (suc k) count)) (keep p (from (suc k) count)) (All (λ m. j < m))
+      cond_both (p k) (k ∷ keep p (from (suc k) count)) (keep p (from (suc k) count)) (AllByRecursion (λ m. j < m))
       (λ _. (lt, keep_above count (suc k) j (omega arith))) (λ _. keep_above count (suc k) j (omega arith))
 
   keep_rising : (count k : ℕ) → Rising (keep p (from k count))
@@ -158,7 +158,7 @@ rows_counted a ws = record {
 
 -- there are no others
 
-above : (n : ℕ) (ms : List ℕ) → All (λ m. n < m) ms → (k : ℕ) → any (eqb k) ms ≡ true → n < k
+above : (n : ℕ) (ms : List ℕ) → AllByRecursion (λ m. n < m) ms → (k : ℕ) → any (eqb k) ms ≡ true → n < k
 above n [] h k e = absurd (false≢true e)
 above n (m ∷ ms) h k e = split (λ f. above n ms h.1 k f) (or_cases (eqb k m) (any (eqb k) ms) e)
   where

@@ -1,6 +1,6 @@
 -- No limit is met. Assumes nothing.
 use Rattle.std.proofs.Common.{◌≡◌, ℕ, zero, suc, ◌+◌, ◌<◌, ◌≤◌, Bool, true, false, cond, not, ◌&&◌, eqb, ltb, leb, ◌⊎◌, List, [], ◌∷◌, ◌++◌, map, length, replicate, Some, None, Option, sym, refl, ap, ◌∙◌, subst, ap₂, inl, inr, arith, length-append}
-use Rattle.std.specs.List.{flat_map, AllByRecursion as All}
+use Rattle.std.specs.List.{flat_map, AllByRecursion}
 use Rattle.std.specs.Option.{option_map}
 use Rattle.std.proofs.ByRecursion.{All-weaker, All-map}
 use Rattle.std.proofs.lemmas.Bool.{cond_both, cond-false, eqb-true, ne_eqb, lt-ltb, le-ltb, le-leb, lt-leb, and_from, not_from_true, or_cases, false≢true, not_from_false}
@@ -47,7 +47,7 @@ pub record Holds (σ : Words) (st : State) : Type 0 where
   pub formed : WellFormed st.stands
   pub within : Within st
 
-low_in_side : (k x : ℕ) (s : Side) → All (KnownPlace k) s → any (is_variable x) s ≡ true → x < 26
+low_in_side : (k x : ℕ) (s : Side) → AllByRecursion (KnownPlace k) s → any (is_variable x) s ≡ true → x < 26
 low_in_side k x [] h e = absurd (false≢true e)
 low_in_side k x (Letter a ∷ s) h e = low_in_side k x s h.1 e
 low_in_side k x (Variable y ∷ s) h e = split (λ f. low_in_side k x s h.1 f) (or_cases (eqb x y) (any (is_variable x) s) e)
@@ -56,7 +56,7 @@ low_in_side k x (Variable y ∷ s) h e = split (λ f. low_in_side k x s h.1 f) (
     split more (inl f) = subst (λ z. z < 26) (sym (eqb-true x y f)) h.0
     split more (inr f) = more f
 
-low_in_sides : (k x : ℕ) (ss : List Side) → All (All (KnownPlace k)) ss → any (any (is_variable x)) ss ≡ true → x < 26
+low_in_sides : (k x : ℕ) (ss : List Side) → AllByRecursion (AllByRecursion (KnownPlace k)) ss → any (any (is_variable x)) ss ≡ true → x < 26
 low_in_sides k x [] h e = absurd (false≢true e)
 low_in_sides k x (s ∷ ss) h e = split (λ f. low_in_sides k x ss h.1 f) (or_cases (any (is_variable x) s) (any (any (is_variable x)) ss) e)
   where
@@ -69,16 +69,16 @@ pub live_low : (S : Standing) → WellFormed S → (x : ℕ) → live S x ≡ tr
 live_low S formed x alive = low_in_sides (fresh S) x (sides S.equations) formed.known_places alive
 
 -- the letters of the filled-in sides are known
-known_sides : (σ : Words) (st : State) → Holds σ st → All (All (λ l. l < fresh st.stands)) (filled_sides st)
+known_sides : (σ : Words) (st : State) → Holds σ st → AllByRecursion (AllByRecursion (λ l. l < fresh st.stands)) (filled_sides st)
 known_sides σ st holds =
-    All-map (All (λ l. l < fresh st.stands)) (fill st.words) (sides st.stands.equations)
-    (All-weaker (All (KnownPlace (fresh st.stands))) (λ s. All (λ l. l < fresh st.stands) (fill st.words s)) (λ s h. all_joined (KnownPlace (fresh st.stands)) (λ l. l < fresh st.stands) (filled st.words) at s h) (sides st.stands.equations) holds.formed.known_places)
+    All-map (AllByRecursion (λ l. l < fresh st.stands)) (fill st.words) (sides st.stands.equations)
+    (All-weaker (AllByRecursion (KnownPlace (fresh st.stands))) (λ s. AllByRecursion (λ l. l < fresh st.stands) (fill st.words s)) (λ s h. all_joined (KnownPlace (fresh st.stands)) (λ l. l < fresh st.stands) (filled st.words) at s h) (sides st.stands.equations) holds.formed.known_places)
   where
-    at : (p : Place) → KnownPlace (fresh st.stands) p → All (λ l. l < fresh st.stands) (filled st.words p)
+    at : (p : Place) → KnownPlace (fresh st.stands) p → AllByRecursion (λ l. l < fresh st.stands) (filled st.words p)
     at (Letter a) h = (h, tt)
     at (Variable x) h = holds.kept.below x
 
-spelled_map : (rules rules' : List Rule) (g : Word → Word) (k : ℕ) → ((w : Word) → All (λ l. l < k) w → spell_word rules' (g w) ≡ spell_word rules w) → (ws : List Word) → All (All (λ l. l < k)) ws → spelled rules' (map g ws) ≡ spelled rules ws
+spelled_map : (rules rules' : List Rule) (g : Word → Word) (k : ℕ) → ((w : Word) → AllByRecursion (λ l. l < k) w → spell_word rules' (g w) ≡ spell_word rules w) → (ws : List Word) → AllByRecursion (AllByRecursion (λ l. l < k)) ws → spelled rules' (map g ws) ≡ spelled rules ws
 spelled_map rules rules' g k same [] h = refl
 spelled_map rules rules' g k same (w ∷ ws) h = ap₂ (λ m n. m + n) (ap length (same w h.0)) (spelled_map rules rules' g k same ws h.1)
 
@@ -183,7 +183,7 @@ pop_free S x a n alive low room small =
     (passed (leb 1024 (length S.pops)) _ _ (lt-leb 1024 (length S.pops) room)
     (passed (ltb 2048 n) _ _ (le-ltb 2048 n small) refl)))
 
-last_low : (k : ℕ) (u : Word) (a : ℕ) → All (λ l. l < k) (u ++ (a ∷ [])) → a < k
+last_low : (k : ℕ) (u : Word) (a : ℕ) → AllByRecursion (λ l. l < k) (u ++ (a ∷ [])) → a < k
 last_low k [] a h = h.0
 last_low k (l ∷ u) a h = last_low k u a h.1
 
@@ -192,12 +192,12 @@ pub free : (σ : Words) (st : State) (choice : Choice) → Holds σ st → Sure 
 free σ st (Left x a) holds sure =
     let S : Standing = st.stands in
     let then : Within (next st (Left x a)) = within_next σ st (Left x a) holds sure in
-    let low : a < fresh S = (subst (All (λ l. l < fresh S)) sure.0.1 (holds.kept.below x)).0 in
+    let low : a < fresh S = (subst (AllByRecursion (λ l. l < fresh S)) sure.0.1 (holds.kept.below x)).0 in
     pop_free S x a (places (taken S (Left x a)).equations) sure.0.0 low (omega (arith, holds.within.pops)) (omega (arith, few_places (next st (Left x a)), then.rules, then.variable))
 free σ st (Right x a) holds sure =
     let S : Standing = st.stands in
     let then : Within (next st (Right x a)) = within_next σ st (Right x a) holds sure in
-    let low : a < fresh S = last_low (fresh S) (leaves S st.words (Right x a) x) a (subst (All (λ l. l < fresh S)) sure.0.1 (holds.kept.below x)) in
+    let low : a < fresh S = last_low (fresh S) (leaves S st.words (Right x a) x) a (subst (AllByRecursion (λ l. l < fresh S)) sure.0.1 (holds.kept.below x)) in
     pop_free S x a (places (taken S (Right x a)).equations) sure.0.0 low (omega (arith, holds.within.pops)) (omega (arith, few_places (next st (Right x a)), then.rules, then.variable))
 free σ st (Erase x) holds sure = passed (not (live st.stands x)) _ _ (not_from_true (live st.stands x) sure.0.0) refl
 free σ st (Pair a b) holds sure =

@@ -1,6 +1,6 @@
 -- What a caller gives to the writer is refused or taken rightly. Assumes nothing.
 use Rattle.std.proofs.Common.{◌≡◌, ℕ, ◌+◌, ◌-◌, ◌≤◌, Bool, true, false, not, ◌&&◌, eqb, ltb, leb, ◌⊎◌, List, [], ◌∷◌, map, length, None, sym, refl, ap, ◌∙◌, subst, ap₂, inl, inr, arith}
-use Rattle.std.specs.List.{AllByRecursion as All}
+use Rattle.std.specs.List.{AllByRecursion}
 use Rattle.std.proofs.lemmas.Bool.{cond-true, cond-false, and_parts, and_cases, and_from, cases_Bool, both_ways, eqb-true, eq-eqb, or_cases, or_parts, false≢true, ltb-false, leb-true, le-ltb, le-leb, not_from_true, not-false, and_left, and_right}
 use Rattle.model.specs.Spelling.{Word}
 use Rattle.systems.specs.Rows.{any}
@@ -60,11 +60,11 @@ solved_means τ [] e = tt
 solved_means τ (eq ∷ E) e = let parts = and_parts (same_word (fill τ eq.0) (fill τ eq.1)) (solved τ E) e in (same_means (fill τ eq.0) (fill τ eq.1) parts.0, solved_means τ E parts.1)
 
 -- words that fill the sides alike solve alike, and fill in as many letters
-pub solves_alike : (τ τ' : Words) (E : List Equation) → All (λ s. fill τ s ≡ fill τ' s) (sides E) → Solves τ E → Solves τ' E
+pub solves_alike : (τ τ' : Words) (E : List Equation) → AllByRecursion (λ s. fill τ s ≡ fill τ' s) (sides E) → Solves τ E → Solves τ' E
 solves_alike τ τ' [] same h = tt
 solves_alike τ τ' (e ∷ E) same h = (sym same.0 ∙ h.0 ∙ same.1.0, solves_alike τ τ' E same.1.1 h.1)
 
-letters_alike : (τ τ' : Words) (ss : List Side) → All (λ s. fill τ s ≡ fill τ' s) ss → letters (map (fill τ) ss) ≡ letters (map (fill τ') ss)
+letters_alike : (τ τ' : Words) (ss : List Side) → AllByRecursion (λ s. fill τ s ≡ fill τ' s) ss → letters (map (fill τ) ss) ≡ letters (map (fill τ') ss)
 letters_alike τ τ' [] same = refl
 letters_alike τ τ' (s ∷ ss) same = ap₂ (λ m n. m + n) (ap length same.0) (letters_alike τ τ' ss same.1)
 
@@ -106,7 +106,7 @@ module _ (loads : List Load) (buffer : List ℕ) (spans : List Span) (room : ℕ
 
   taken_rightly : (σ : Words) → Solution σ (loaded loads) → StandInBuffer loads σ buffer spans → side_letters (start loads σ) ≤ 512 → 1050 ≤ room → write_refusal S buffer spans room ≡ None
   taken_rightly σ solution stand few enough =
-      let alike : All (λ s. fill σ s ≡ fill σ₀ s) (sides (loaded loads)) = fill_same σ σ₀ (loaded loads) (λ x of. sym (given_same σ stand x of)) in
+      let alike : AllByRecursion (λ s. fill σ s ≡ fill σ₀ s) (sides (loaded loads)) = fill_same σ σ₀ (loaded loads) (λ x of. sym (given_same σ stand x of)) in
       let same : side_letters (start loads σ) ≡ side_letters (start loads σ₀) = letters_alike σ σ₀ (sides (loaded loads)) alike in
       passed (ltb room 1050) _ _ (le-ltb room 1050 enough)
       (passed (any bad variables) _ _ (none_any bad variables (all_each (λ x. bad x ≡ false) (not_bad σ solution stand) variables))

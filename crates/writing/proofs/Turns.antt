@@ -1,6 +1,6 @@
 -- The turn of a variable: its choices are sure, and there is one at least. Assumes nothing.
 use Rattle.std.proofs.Common.{◌≡◌, ℕ, zero, suc, ◌+◌, ◌<◌, ◌≤◌, Bool, true, false, cond, ◌&&◌, eqb, ◌≢◌, ◌⊎◌, List, [], ◌∷◌, ◌++◌, map, length, sym, refl, ap, ◌∙◌, subst, inl, inr, arith, length-append}
-use Rattle.std.specs.List.{AllByRecursion as All}
+use Rattle.std.specs.List.{AllByRecursion}
 use Rattle.std.proofs.ByRecursion.{All-append}
 use Rattle.std.proofs.lemmas.Bool.{cond_both, and_cases, eqb-false, both_ways, true≢false}
 use Rattle.model.specs.Spelling.{Word}
@@ -42,13 +42,13 @@ quiet_of y (Erase x) h = tt
 quiet_of y (Pair a b) h = h
 quiet_of y (Block a n) h = h
 
-quiet_all : (y : ℕ) (list : List Choice) → All (Of y) list → All Quiet list
+quiet_all : (y : ℕ) (list : List Choice) → AllByRecursion (Of y) list → AllByRecursion Quiet list
 quiet_all y [] h = tt
 quiet_all y (choice ∷ more) h = (quiet_of y choice h.0, quiet_all y more h.1)
 
-each_quiet : (p : ℕ → Part) → ((y : ℕ) (st : State) → All (Of y) (p y st)) → (xs : List ℕ) (st : State) → All Quiet (each p xs st)
+each_quiet : (p : ℕ → Part) → ((y : ℕ) (st : State) → AllByRecursion (Of y) (p y st)) → (xs : List ℕ) (st : State) → AllByRecursion Quiet (each p xs st)
 each_quiet p of [] st = tt
-each_quiet p of (x ∷ xs) st = subst (All Quiet) (sym (then_is (p x) (each p xs) st)) (All-append Quiet (p x st) (each p xs (follow st (p x st))) (quiet_all x (p x st) (of x st)) (each_quiet p of xs (follow st (p x st))))
+each_quiet p of (x ∷ xs) st = subst (AllByRecursion Quiet) (sym (then_is (p x) (each p xs) st)) (All-append Quiet (p x st) (each p xs (follow st (p x st))) (quiet_all x (p x st) (of x st)) (each_quiet p of xs (follow st (p x st))))
 
 quiet_next : (st : State) (choice : Choice) → Sure st choice → Quiet choice → filled_sides (next st choice) ≡ filled_sides st
 quiet_next st (Left x a) sure q = filled_next st (Left x a) sure.0
@@ -57,7 +57,7 @@ quiet_next st (Erase x) sure q = filled_next st (Erase x) sure.0
 quiet_next st (Pair a b) sure q = absurd q
 quiet_next st (Block a n) sure q = absurd q
 
-quiet_filled : (st : State) (list : List Choice) → AllSure st list → All Quiet list → filled_sides (follow st list) ≡ filled_sides st
+quiet_filled : (st : State) (list : List Choice) → AllSure st list → AllByRecursion Quiet list → filled_sides (follow st list) ≡ filled_sides st
 quiet_filled st [] sure q = refl
 quiet_filled st (choice ∷ more) sure q = quiet_filled (next st choice) more sure.1 q.1 ∙ quiet_next st choice sure.0 q.0
 
@@ -134,7 +134,7 @@ module _ (σ : Words) (st : State) (holds : Holds σ st) (x : ℕ) (alive : live
       let st₁ : State = follow st pops in
       let sure : AllSure st pops = each_sure (for_pair a b) (for_pair_sure a b) variables st in
       let holds₁ : Holds σ st₁ = holds_follow σ st pops sure holds in
-      let letters_known : All (λ l. l < fresh st.stands) (a ∷ b ∷ w) = subst (All (λ l. l < fresh st.stands)) is (holds.kept.below x) in
+      let letters_known : AllByRecursion (λ l. l < fresh st.stands) (a ∷ b ∷ w) = subst (AllByRecursion (λ l. l < fresh st.stands)) is (holds.kept.below x) in
       let clear : (y : ℕ) → Clear a b y st₁ = λ y live_y. over_variables (for_pair a b) (Clear a b) (pairs_clear a b) st y (live_low st₁.stands holds₁.formed y live_y) live_y in
       let same : filled_sides st₁ ≡ filled_sides st = quiet_filled st pops sure (each_quiet (for_pair a b) (for_pair_of a b) variables st) in
       let occurs : any (has_pair a b) (filled_sides st₁) ≡ true = ap (any (has_pair a b)) same ∙ pair_occurs a b w st x alive is in
@@ -150,7 +150,7 @@ module _ (σ : Words) (st : State) (holds : Holds σ st) (x : ℕ) (alive : live
       let st₁ : State = follow st pops in
       let sure : AllSure st pops = each_sure (for_block a) (for_block_sure a) variables st in
       let holds₁ : Holds σ st₁ = holds_follow σ st pops sure holds in
-      let letters_known : All (λ l. l < fresh st.stands) (a ∷ w) = subst (All (λ l. l < fresh st.stands)) is (holds.kept.below x) in
+      let letters_known : AllByRecursion (λ l. l < fresh st.stands) (a ∷ w) = subst (AllByRecursion (λ l. l < fresh st.stands)) is (holds.kept.below x) in
       let bare : (y : ℕ) → Bare a y st₁ = λ y live_y. over_variables (for_block a) (Bare a) (blocks_bare a) st y (live_low st₁.stands holds₁.formed y live_y) live_y in
       let known_a : a < fresh st₁.stands = omega (arith, letters_known.0, fresh_follow st pops) in
       let few : letters (filled_sides st₁) ≤ 512 = omega (arith, holds₁.within.rules) in

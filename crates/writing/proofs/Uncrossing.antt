@@ -1,6 +1,6 @@
 -- After the uncrossing pops nothing crosses. Assumes nothing.
 use Rattle.std.proofs.Common.{◌≡◌, ℕ, zero, suc, ◌+◌, ◌<◌, ◌≤◌, Bool, true, false, ◌&&◌, eqb, ◌≢◌, ◌⊎◌, List, [], ◌∷◌, ◌++◌, length, sym, refl, ap, ◌∙◌, subst, inl, inr, append_assoc, append-nil, arith, length-append}
-use Rattle.std.specs.List.{AllByRecursion as All}
+use Rattle.std.specs.List.{AllByRecursion}
 use Rattle.std.proofs.ByRecursion.{All-append, All-weaker}
 use Rattle.std.proofs.lemmas.Bool.{cond_both, and_parts, and_cases, both_ways, eqb-true, eq-eqb, or_left, or_right, false≢true}
 use Rattle.model.specs.Spelling.{Word}
@@ -109,10 +109,10 @@ module _ (x a : ℕ) where
 -- what is wanted of a variable x for ab: no b can come first at it unless a b stands before it, and no a last unless an a stands behind it
 
 abbrev pub LeftClear : ℕ → ℕ → State → Type 0
-LeftClear b x st = (begins b (st.words x) ≡ false) ⊎ All (Led x b false) (sides st.stands.equations)
+LeftClear b x st = (begins b (st.words x) ≡ false) ⊎ AllByRecursion (Led x b false) (sides st.stands.equations)
 
 abbrev pub RightClear : ℕ → ℕ → State → Type 0
-RightClear a x st = (ends a (st.words x) ≡ false) ⊎ All (Trailed x a) (sides st.stands.equations)
+RightClear a x st = (ends a (st.words x) ≡ false) ⊎ AllByRecursion (Trailed x a) (sides st.stands.equations)
 
 abbrev pub Clear : ℕ → ℕ → ℕ → State → Type 0
 Clear a b x st = lives st x ≡ true → (empty (st.words x) ≡ false) × LeftClear b x st × RightClear a x st
@@ -126,28 +126,28 @@ Of y (Pair a b) = ⊥
 Of y (Block a n) = ⊥
 
 module _ (Q : State → Type 0) (y : ℕ) (step : (st : State) (choice : Choice) → Of y choice → Q st → Q (next st choice)) where
-  pub follow_of : (list : List Choice) (st : State) → All (Of y) list → Q st → Q (follow st list)
+  pub follow_of : (list : List Choice) (st : State) → AllByRecursion (Of y) list → Q st → Q (follow st list)
   follow_of [] st of h = h
   follow_of (choice ∷ more) st of h = follow_of more (next st choice) of.1 (step st choice of.0 h)
 
 abbrev pub AllOf : ℕ → Part → Type 0
-AllOf y p = (st : State) → All (Of y) (p st)
+AllOf y p = (st : State) → AllByRecursion (Of y) (p st)
 
 then_of : (y : ℕ) (p q : Part) → AllOf y p → AllOf y q → AllOf y (then p q)
-then_of y p q h k st = subst (All (Of y)) (sym (then_is p q st)) (All-append (Of y) (p st) (q (follow st (p st))) (h st) (k (follow st (p st))))
+then_of y p q h k st = subst (AllByRecursion (Of y)) (sym (then_is p q st)) (All-append (Of y) (p st) (q (follow st (p st))) (h st) (k (follow st (p st))))
 
 again_of : (y : ℕ) (p : Part) → AllOf y p → (n : ℕ) → AllOf y (again n p)
 again_of y p h zero st = tt
 again_of y p h (suc n) st = then_of y p (again n p) h (again_of y p h n) st
 
 first_of : (a y : ℕ) → AllOf y (pop_first a y)
-first_of a y st = cond_both (lives st y && begins a (st.words y)) (Left y a ∷ []) [] (All (Of y)) (λ _. (refl, tt)) (λ _. tt)
+first_of a y st = cond_both (lives st y && begins a (st.words y)) (Left y a ∷ []) [] (AllByRecursion (Of y)) (λ _. (refl, tt)) (λ _. tt)
 
 last_of : (a y : ℕ) → AllOf y (pop_last a y)
-last_of a y st = cond_both (lives st y && ends a (st.words y)) (Right y a ∷ []) [] (All (Of y)) (λ _. (refl, tt)) (λ _. tt)
+last_of a y st = cond_both (lives st y && ends a (st.words y)) (Right y a ∷ []) [] (AllByRecursion (Of y)) (λ _. (refl, tt)) (λ _. tt)
 
 pub erase_of : (y : ℕ) → AllOf y (erase_empty y)
-erase_of y st = cond_both (lives st y && empty (st.words y)) (Erase y ∷ []) [] (All (Of y)) (λ _. (refl, tt)) (λ _. tt)
+erase_of y st = cond_both (lives st y && empty (st.words y)) (Erase y ∷ []) [] (AllByRecursion (Of y)) (λ _. (refl, tt)) (λ _. tt)
 
 pub for_pair_of : (a b y : ℕ) → AllOf y (for_pair a b y)
 for_pair_of a b y = then_of y (pop_first b y) (then (pop_last a y) (erase_empty y)) (first_of b y) (then_of y (pop_last a y) (erase_empty y) (last_of a y) (erase_of y))
@@ -167,14 +167,14 @@ other_word x y d st (Pair a b) e = absurd e
 other_word x y d st (Block a n) e = absurd e
 
 -- and what stands beside it
-other_led : (x b y : ℕ) → x ≢ y → (st : State) (choice : Choice) → Of y choice → All (Led x b false) (sides st.stands.equations) → All (Led x b false) (sides (next st choice).stands.equations)
+other_led : (x b y : ℕ) → x ≢ y → (st : State) (choice : Choice) → Of y choice → AllByRecursion (Led x b false) (sides st.stands.equations) → AllByRecursion (Led x b false) (sides (next st choice).stands.equations)
 other_led x b y d st (Left z l) e h = all_sides (Led x b false) (Led x b false) (swap z (Letter l ∷ Variable z ∷ [])) (λ s. led_swap x b z (Letter l ∷ Variable z ∷ []) (through_left x b z l (λ f. d (f ∙ e))) s false false (λ e. e)) st.stands.equations h
 other_led x b y d st (Right z l) e h = all_sides (Led x b false) (Led x b false) (swap z (Variable z ∷ Letter l ∷ [])) (λ s. led_swap x b z (Variable z ∷ Letter l ∷ []) (through_right x b z l) s false false (λ e. e)) st.stands.equations h
 other_led x b y d st (Erase z) e h = all_sides (Led x b false) (Led x b false) (swap z []) (λ s. led_swap x b z [] (through_none x b z) s false false (λ e. e)) st.stands.equations h
 other_led x b y d st (Pair _ _) e h = absurd e
 other_led x b y d st (Block _ _) e h = absurd e
 
-other_trailed : (x a y : ℕ) → x ≢ y → (st : State) (choice : Choice) → Of y choice → All (Trailed x a) (sides st.stands.equations) → All (Trailed x a) (sides (next st choice).stands.equations)
+other_trailed : (x a y : ℕ) → x ≢ y → (st : State) (choice : Choice) → Of y choice → AllByRecursion (Trailed x a) (sides st.stands.equations) → AllByRecursion (Trailed x a) (sides (next st choice).stands.equations)
 other_trailed x a y d st (Left z l) e h = all_sides (Trailed x a) (Trailed x a) (swap z (Letter l ∷ Variable z ∷ [])) (trailed_swap x a z (Letter l ∷ Variable z ∷ []) (through_left' x a z l)) st.stands.equations h
 other_trailed x a y d st (Right z l) e h = all_sides (Trailed x a) (Trailed x a) (swap z (Variable z ∷ Letter l ∷ [])) (trailed_swap x a z (Variable z ∷ Letter l ∷ []) (through_right' x a z l (λ f. d (f ∙ e)))) st.stands.equations h
 other_trailed x a y d st (Erase z) e h = all_sides (Trailed x a) (Trailed x a) (swap z []) (trailed_swap x a z [] (through_none' x a z)) st.stands.equations h
@@ -431,7 +431,7 @@ uncrossed a b τ s ok k = split k.beside
             let is_a : eqb a b ≡ true = sym (ends-++ b k.ends.0 (a ∷ []) refl) ∙ ap (ends b) (sym k.ends.1) ∙ last in
             h.0 (eqb-true a b is_a)
 
-all_of : (Q : ℕ → Side → Type 0) (ss : List Side) → ((x : ℕ) → any (any (is_variable x)) ss ≡ true → All (Q x) ss) → All (λ s. (x : ℕ) → any (is_variable x) s ≡ true → Q x s) ss
+all_of : (Q : ℕ → Side → Type 0) (ss : List Side) → ((x : ℕ) → any (any (is_variable x)) ss ≡ true → AllByRecursion (Q x) ss) → AllByRecursion (λ s. (x : ℕ) → any (is_variable x) s ≡ true → Q x s) ss
 all_of Q [] h = tt
 all_of Q (s ∷ ss) h = (λ x e. (h x (or_left (any (is_variable x) s) (any (any (is_variable x)) ss) e)).0, all_of Q ss (λ x e. (h x (or_right (any (is_variable x) s) (any (any (is_variable x)) ss) e)).1))
 
@@ -439,16 +439,16 @@ module _ (a b : ℕ) (st : State) where
   abbrev ss : List Side
   ss = sides st.stands.equations
 
-  oks : (x : ℕ) → a ≢ b → (empty (st.words x) ≡ false) × LeftClear b x st × RightClear a x st → All (Ok a b st.words x) ss
+  oks : (x : ℕ) → a ≢ b → (empty (st.words x) ≡ false) × LeftClear b x st × RightClear a x st → AllByRecursion (Ok a b st.words x) ss
   oks x d h = split h.1 h.2
     where
-      split : LeftClear b x st → RightClear a x st → All (Ok a b st.words x) ss
+      split : LeftClear b x st → RightClear a x st → AllByRecursion (Ok a b st.words x) ss
       split (inl e) (inl f) = all_each (Ok a b st.words x) (λ s. (h.0, inl e, inl f)) ss
       split (inl e) (inr f) = All-weaker (Trailed x a) (Ok a b st.words x) (λ s k. (h.0, inl e, inr (d, k))) ss f
       split (inr e) (inl f) = All-weaker (Led x b false) (Ok a b st.words x) (λ s k. (h.0, inr (d, k), inl f)) ss e
       split (inr e) (inr f) = both ss e f
         where
-          both : (ss : List Side) → All (Led x b false) ss → All (Trailed x a) ss → All (Ok a b st.words x) ss
+          both : (ss : List Side) → AllByRecursion (Led x b false) ss → AllByRecursion (Trailed x a) ss → AllByRecursion (Ok a b st.words x) ss
           both [] e f = tt
           both (s ∷ ss) e f = ((h.0, inr (d, e.0), inr (d, f.0)), both ss e.1 f.1)
 

@@ -1,6 +1,6 @@
 -- The writer's list: round by round, choices that fit the words of a solution. Assumes nothing.
 use Rattle.std.specs.Prelude.{◌≡◌, ℕ, zero, suc, ◌+◌, ◌<◌, ◌≤◌, Bool, true, false, cond, ◌&&◌, ◌≢◌, ◌⊎◌, List, [], ◌∷◌, ◌++◌, map, length, replicate, Some, None, Option, ◌==◌, nat_eq}
-use Rattle.std.specs.List.{AllByRecursion as All}
+use Rattle.std.specs.List.{AllByRecursion}
 use Rattle.model.specs.Spelling.{Word}
 use Rattle.systems.specs.declared.Choice.{Choice}
 use Rattle.systems.specs.declared.Choice.TheVariants.{Left, Right, Erase, Pair, Block}
@@ -140,7 +140,7 @@ InSome P (w ∷ ws) = P w ⊎ InSome P ws
 -- each number is below the later ones
 abbrev pub Rising : List ℕ → Type 0
 Rising [] = Unit {0}
-Rising (n ∷ ns) = All (λ m. n < m) ns × Rising ns
+Rising (n ∷ ns) = AllByRecursion (λ m. n < m) ns × Rising ns
 
 -- the lengths, 2 or more, of the maximal rows of a in some words, rising: all of them, each once
 pub record RowLengths (a : ℕ) (ws : List Word) (ns : List ℕ) : Type 0 where

@@ -2,7 +2,7 @@ use Rattle.std.proofs.Common.{◌≡◌, ◌+◌, ◌-◌, ◌<◌, ◌≤◌, L
 use Rattle.std.proofs.lemmas.List.{take_all}
 use Rattle.std.proofs.ByRecursion.{All-more}
 use Rattle.std.proofs.lemmas.Bool.{both_ways}
-use Rattle.std.specs.List.{AllByRecursion as All}
+use Rattle.std.specs.List.{AllByRecursion}
 use Rattle.systems.specs.Sides.{Equation, SameSides}
 use Rattle.sides.specs.declared.mark.Mark.{Mark}
 use Rattle.sides.specs.declared.mark.Mark.TheVariants.{End, At}
@@ -53,7 +53,7 @@ returns-then-not-same c =
     let k : c.loop-k.k ≡ (c.loop-k.k + 1) - 1 = omega arith in (
       omega arith,
       omega (arith, inside p),
-      subst (λ i. All SameSides (take i E)) k c.loop-k.invariant.1,
+      subst (λ i. AllByRecursion SameSides (take i E)) k c.loop-k.invariant.1,
       subst (λ i. SameSides (at_equation E i) → ⊥) k (λ equal. both_ways c.same.result c.if-not-same.true (c.same.ensures.1 (e.0 ∙ ap (map At) equal ∙ sym e.1))),
     )
 
@@ -70,4 +70,4 @@ pub returns : goal.returns
 returns c =
     let E = equations_in c.args.marks.now in
     let long : length E ≤ c.loop-k.k = omega (arith, c.requires.counted, c.loop-k-test.false) in
-    subst (All SameSides) (take_all c.loop-k.k E long) c.loop-k.invariant.1
+    subst (AllByRecursion SameSides) (take_all c.loop-k.k E long) c.loop-k.invariant.1

@@ -1,5 +1,5 @@
 use Rattle.std.proofs.Common.{◌≡◌, ◌-◌, ◌<◌, true, false, ltb, get_or, take, sym, ap, ◌∙◌, subst, arith}
-use Rattle.std.specs.List.{AllByRecursion as All}
+use Rattle.std.specs.List.{AllByRecursion}
 use Rattle.std.proofs.lemmas.Bool.{cond-true, lt-ltb}
 use Rattle.model.specs.Spelling.{spell_word}
 use Rattle.systems.specs.Standings.{Standing, fresh, popped_word}
@@ -22,6 +22,6 @@ returns-in-Some g c =
     let of : system_of s x ≡ true = cond-true (ltb x 26) (get_or s.system x false) false (lt-ltb x 26 c.requires.low) ∙ c.if-not-self-x.false in
     let all : c.put_word-n.result - 0 ≡ c.put_word-n.result = omega arith in
     let word : take (c.put_word-n.result - 0) c.put_word-n.new.out ≡ popped_word S x = ap (λ n. take n c.put_word-n.new.out) all ∙ c.put_word-n.ensures.word ∙ ap (λ ps. word_from ps x) c.pops.ensures in
-    let low : All (λ a. a < fresh S) (take (c.put_word-n.result - 0) c.put_word-n.new.out) = subst (All (λ a. a < fresh S)) (sym word) (each_known S s.system s.run x) in
+    let low : AllByRecursion (λ a. a < fresh S) (take (c.put_word-n.result - 0) c.put_word-n.new.out) = subst (AllByRecursion (λ a. a < fresh S)) (sym word) (each_known S s.system s.run x) in
     let value = c.word_value-value.ensures.by_spelling S.rules c.requires.filled low ∙ ap (λ w. word_value m.letter m.empty m.join (spell_word S.rules w)) word in
     by_passing m (system_of s) S x c.in-Some.variable.number c.word_value-value.result c.passes.result of c.in-Some.ensures value c.passes.ensures
