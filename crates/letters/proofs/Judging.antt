@@ -1,6 +1,6 @@
 -- What is known of a letter from its length, and the judgement of a rule from the room that is left. Assumes nothing.
-use Rattle.std.proofs.Common.{◌≡◌, ℕ, ◌^◌, ◌<◌, true, false, cond, ltb, leb, List, length, Some, None, Ok, Err, Option, Result, sym, ap, ◌∙◌, subst, ⊎_elim, arith, MatchResult}
-use Rattle.std.proofs.lemmas.Bool.{cond-true, cond-false, cond_both, ltb-true, lt-ltb, cases_Bool}
+use Rattle.std.proofs.Common.{◌≡◌, ℕ, ◌^◌, ◌<◌, ◌≤◌, true, false, cond, ltb, leb, List, length, Some, None, Ok, Err, Option, Result, sym, ap, ◌∙◌, subst, ⊎_elim, arith, MatchResult}
+use Rattle.std.proofs.lemmas.Bool.{cond-true, cond-false, cond_both, ltb-true, lt-ltb, cases_Bool, cases_lt}
 use Rattle.model.specs.declared.Rule.{Rule}
 use Rattle.model.specs.declared.RuleRefusal.{RuleRefusal}
 use Rattle.model.specs.declared.RuleRefusal.TheVariants.{TooManyRules, TooLong}
@@ -21,6 +21,13 @@ known_length rules a n is =
     let none : ◌≡◌ {A = Option ℕ} (Some n) None = is ∙ cond-false (ltb a (known rules)) (Some (length (spell rules a))) None e in
     absurd (let z : ◌≡◌ {A = ℕ} 0 1 = cc in omega arith))
     (cases_Bool (ltb a (known rules)))
+
+pub unknown_length : (rules : List Rule) (a : ℕ) → None ≡ length_of rules a → known rules ≤ a
+unknown_length rules a none =
+    ⊎_elim
+    (λ (lt : a < known rules). let found : ◌≡◌ {A = Option ℕ} None (Some (length (spell rules a))) = none ∙ length_known rules a lt in absurd (grind arith))
+    (λ (ge : known rules ≤ a). ge)
+    (cases_lt a (known rules))
 
 -- the judgement of a rule
 abbrev pub Judged : List Rule → Rule → Result ℕ RuleRefusal → Type 0

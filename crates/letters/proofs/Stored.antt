@@ -1,12 +1,37 @@
 -- Rules and lengths as they are stored, oldest first, with one more of each. Assumes nothing.
-use Rattle.std.proofs.Common.{◌≡◌, ℕ, ◌+◌, ◌<◌, ◌≤◌, true, List, [], ◌∷◌, ◌++◌, reverse, length, get_or, None, sym, ap, ◌∙◌, ⊎_elim, arith}
+use Rattle.std.proofs.Common.{◌≡◌, ℕ, ◌+◌, ◌<◌, ◌≤◌, true, ltb, List, [], ◌∷◌, ◌++◌, reverse, length, get_or, Some, None, sym, ap, ◌∙◌, ⊎_elim, arith}
+use Rattle.std.specs.List.{slice_get}
+use Rattle.std.proofs.lemmas.Bool.{and_from, cases_lt, cond-false, le-ltb}
 use Rattle.std.proofs.lemmas.List.{length-reverse, length_push, get_or_append_left, get_or_push}
-use Rattle.std.proofs.lemmas.Bool.{and_from, cases_lt}
+use Rattle.std.proofs.lemmas.Option.{slice_get_past, slice_get-get_or}
 use Rattle.model.specs.declared.Rule.{Rule}
-use Rattle.model.specs.Spelling.{known, spell}
+use Rattle.model.specs.declared.Rule.TheVariants.{Block}
+use Rattle.model.specs.Spelling.{known, rule_of, spell}
 use Rattle.model.specs.Witnesses.{made_length, rule_fits, rule_refusal, rules_fit}
 use Rattle.model.proofs.Spelling.{spell_older, spell_newest}
-use Rattle.model.proofs.Fitting.{from_fits, taken_fits, newest_reverse}
+use Rattle.model.proofs.Fitting.{from_fits, newest_reverse, rule_past, rule_stored, taken_fits}
+use Rattle.letters.specs.Holding.{length_of}
+use Rattle.letters.proofs.Judging.{length_known}
+
+-- the rule of a made letter, and the length of what it spells, stand at its place in the lists, if it is made
+pub rule_placed : (rules : List Rule) (i : ℕ) → slice_get rules i ≡ rule_of (reverse rules) (26 + i)
+rule_placed rules i =
+    ⊎_elim
+    (λ (within : i < length rules).
+    slice_get-get_or rules i (Block 0 0) within ∙ sym (rule_stored rules i (Block 0 0) within))
+    (λ (past : length rules ≤ i). slice_get_past rules i past ∙ sym (rule_past (reverse rules) (26 + i) (omega (arith, length-reverse rules))))
+    (cases_lt i (length rules))
+
+pub length_placed : (rules : List Rule) (lengths : List ℕ) (i : ℕ) → length lengths ≡ length rules → ((i : ℕ) → i < length rules → get_or lengths i 0 ≡ length (spell (reverse rules) (26 + i))) → slice_get lengths i ≡ length_of (reverse rules) (26 + i)
+length_placed rules lengths i level measured =
+    ⊎_elim
+    (λ (within : i < length rules).
+    let beside : i < length lengths = omega arith in
+    slice_get-get_or lengths i 0 beside ∙ ap Some (measured i within) ∙ sym (length_known (reverse rules) (26 + i) (omega (arith, length-reverse rules))))
+    (λ (past : length rules ≤ i).
+    let out : known (reverse rules) ≤ 26 + i = omega (arith, length-reverse rules) in
+    slice_get_past lengths i (omega arith) ∙ sym (cond-false (ltb (26 + i) (known (reverse rules))) (Some (length (spell (reverse rules) (26 + i)))) None (le-ltb (26 + i) (known (reverse rules)) out)))
+    (cases_lt i (length rules))
 
 -- a rule that is not refused finds room
 pub room_more : (rules : List Rule) (rule : Rule) → rule_refusal (reverse rules) rule ≡ None → length rules < 512

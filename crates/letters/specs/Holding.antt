@@ -1,5 +1,5 @@
 -- What the letters hold, and what is answered of them. Assumes nothing.
-use Rattle.std.specs.Prelude.{ℕ, ◌^◌, cond, List, reverse, length, Some, None, Ok, Err, vec_items, Option, Result, nat_le, nat_lt}
+use Rattle.std.specs.Prelude.{ℕ, ◌^◌, cond, List, reverse, length, Some, None, Ok, Err, Option, Result, nat_le, nat_lt}
 use Rattle.model.specs.declared.Rule.{Rule}
 use Rattle.model.specs.declared.RuleRefusal.{RuleRefusal}
 use Rattle.model.specs.declared.RuleRefusal.TheVariants.{TooManyRules, TooLong}
@@ -8,7 +8,7 @@ use Rattle.letters.specs.declared.store.Letters.{Letters}
 
 -- the rules, newest first
 abbrev pub rules_of : Letters → List Rule
-rules_of l = reverse (vec_items l.rules)
+rules_of l = reverse l.rules
 
 -- the length of what a known letter spells
 abbrev pub length_of : List Rule → ℕ → Option ℕ

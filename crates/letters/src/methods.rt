@@ -3,12 +3,10 @@ ghost use Rattle.model.specs.Spelling.{known as count_known, rule_of};
 ghost use Rattle.model.specs.Witnesses.{made_length, rule_refusal};
 ghost use Rattle.letters.specs.Holding.{length_of, room_for, rules_of};
 
-use crate::store::Letters;
+use crate::store::{Letters, MOST_RULES};
 use model::{Rule, RuleRefusal};
+use reserved::Reserved;
 use std::alloc::{AllocError, Global};
-
-// No more rules are made.
-const MOST_RULES: usize = 512;
 
 // A block has as many letters as lie between these two.
 const LEAST_COUNT: u32 = 2;
@@ -23,8 +21,8 @@ impl Letters {
     pub fn new(heap: Global) -> Result<Letters, AllocError>
         ensures { IfOk result (λ l. rules_of l ≡ []) }
     {
-        let rules = Vec::with_capacity(heap, MOST_RULES)?;
-        let lengths = Vec::with_capacity(heap, MOST_RULES)?;
+        let rules = Reserved::new(heap)?;
+        let lengths = Reserved::new(heap)?;
         Ok(Letters { rules, lengths })
     }
 
@@ -55,22 +53,17 @@ impl Letters {
     pub fn rule(&self, letter: u16) -> Option<Rule>
         ensures { result ≡ rule_of (rules_of self.now) letter }
     {
-        if letter < 26 || letter >= self.known() {
-            return None;
-        }
-        Some(self.rules[usize::from(letter) - 26])
+        let place = usize::from(letter).checked_sub(26)?;
+        self.rules.get(place).copied()
     }
 
     // The length of what a known letter spells.
     pub fn length(&self, letter: u16) -> Option<u64>
         ensures { result ≡ length_of (rules_of self.now) letter }
     {
-        if letter >= self.known() {
-            None
-        } else if letter < 26 {
-            Some(1)
-        } else {
-            Some(self.lengths[usize::from(letter) - 26])
+        match usize::from(letter).checked_sub(26) {
+            None => Some(1),
+            Some(place) => self.lengths.get(place).copied(),
         }
     }
 
@@ -104,12 +97,8 @@ impl Letters {
             (λ n. (rule_refusal (rules_of self.now) (Rule.Pair a b) ≡ None) × (n ≡ made_length (rules_of self.now) (Rule.Pair a b)))
             (λ e. rule_refusal (rules_of self.now) (Rule.Pair a b) ≡ Some e) }
     {
-        let Some(first) = self.length(a) else {
-            return Err(RuleRefusal::UnknownLetter);
-        };
-        let Some(second) = self.length(b) else {
-            return Err(RuleRefusal::UnknownLetter);
-        };
+        let first = self.length(a).ok_or(RuleRefusal::UnknownLetter)?;
+        let second = self.length(b).ok_or(RuleRefusal::UnknownLetter)?;
         if a == b {
             return Err(RuleRefusal::EqualLetters);
         }
@@ -121,9 +110,7 @@ impl Letters {
             (λ n. (rule_refusal (rules_of self.now) (Rule.Block a count) ≡ None) × (n ≡ made_length (rules_of self.now) (Rule.Block a count)))
             (λ e. rule_refusal (rules_of self.now) (Rule.Block a count) ≡ Some e) }
     {
-        let Some(one) = self.length(a) else {
-            return Err(RuleRefusal::UnknownLetter);
-        };
+        let one = self.length(a).ok_or(RuleRefusal::UnknownLetter)?;
         if count < LEAST_COUNT || count > MOST_COUNT {
             return Err(RuleRefusal::CountOutOfRange);
         }
@@ -137,8 +124,8 @@ impl Letters {
             (λ e. (rule_refusal (rules_of self.old) rule ≡ Some e) × (rules_of self.new ≡ rules_of self.old)) }
     {
         let length = self.judge(rule)?;
-        self.rules.push_reserved(rule);
-        self.lengths.push_reserved(length);
+        self.rules.push(rule).unwrap();
+        self.lengths.push(length).unwrap();
         Ok(())
     }
 }

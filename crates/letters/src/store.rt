@@ -1,18 +1,20 @@
-ghost use Rattle.std.specs.Prelude.{◌≡◌, ℕ, ◌+◌, ◌<◌, ◌≤◌, true, reverse, length, vec_len, vec_capacity, slice_index};
+ghost use Rattle.std.specs.Prelude.{◌≡◌, ℕ, ◌+◌, ◌<◌, true, reverse, length, slice_index};
 ghost use Rattle.model.specs.Spelling.{spell};
 ghost use Rattle.model.specs.Witnesses.{rules_fit};
 
 use model::Rule;
+use reserved::Reserved;
 
-// At most 512 rules, the oldest first, and the length of what each rule's letter spells. All room is there from the start.
+// No more rules are made.
+pub(crate) const MOST_RULES: usize = 512;
+
+// The rules, the oldest first, and the length of what each rule's letter spells.
+// The lengths stand in a list of their own, since the rules are lent as one slice.
 #[derive(Drop)]
 pub struct Letters {
-    pub(crate) rules: Vec<Rule>,
-    pub(crate) lengths: Vec<u64>,
-    ghost few: { vec_len rules ≤ 512 },
-    ghost room: { 512 ≤ vec_capacity rules },
-    ghost beside: { 512 ≤ vec_capacity lengths },
-    ghost level: { vec_len lengths ≡ vec_len rules },
-    ghost fit: { rules_fit (reverse rules.items) ≡ true },
-    ghost measured: { (i : ℕ) → i < length rules.items → slice_index lengths.items i ≡ length (spell (reverse rules.items) (26 + i)) },
+    pub(crate) rules: Reserved<Rule, MOST_RULES>,
+    pub(crate) lengths: Reserved<u64, MOST_RULES>,
+    ghost level: { length lengths ≡ length rules },
+    ghost fit: { rules_fit (reverse rules) ≡ true },
+    ghost measured: { (i : ℕ) → i < length rules → slice_index lengths i ≡ length (spell (reverse rules) (26 + i)) },
 }

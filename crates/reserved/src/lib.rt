@@ -2,7 +2,7 @@
 
 #![tactic(auto)]
 
-ghost use Rattle.std.specs.Prelude.{◌≡◌, ◌+◌, ◌<◌, ◌≤◌, List, [], ◌∷◌, ◌++◌, length, vec_len, vec_capacity, IfOk, MatchResult};
+ghost use Rattle.std.specs.Prelude.{◌≡◌, ◌+◌, ◌<◌, ◌≤◌, List, [], ◌∷◌, ◌++◌, length, vec_len, vec_capacity, IfOk, MatchResult, slice_get, option_copied};
 
 use std::alloc::{AllocError, Global};
 use std::marker::Model;
@@ -49,6 +49,13 @@ impl<T, const N: usize> Reserved<T, N> {
         ensures bound { length result.now ≤ N }
     {
         self.items.as_slice()
+    }
+
+    // The item at a place, if there is one.
+    pub fn get(&self, place: usize) -> Option<&T>
+        ensures { option_copied result ≡ slice_get self.now place }
+    {
+        self.items.get(place)
     }
 }
 

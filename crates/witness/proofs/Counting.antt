@@ -1,9 +1,12 @@
 -- How many letters the letters before a place spell: with one letter or one rule more, in a word, and searched by halves. Assumes nothing.
 use Rattle.std.proofs.Common.{◌≡◌, ℕ, zero, suc, ◌+◌, ◌-◌, ◌<◌, ◌≤◌, true, false, ltb, leb, List, [], ◌∷◌, ◌++◌, length, get_or, take, drop, Some, Ok, Err, Option, sym, refl, ap, ◌∙◌, subst, ap₂, ⊎_elim, arith, length-append}
 use lib.Seq.{drop-append-add, take-append-le}
-use Rattle.std.proofs.lemmas.List.{take_all, take-append-drop, take_more, take-take, length-take-le, length_push, nil_from_length, get_or-take, get_or_push, get_or_read, get_or_append_left, get_or-append-add}
-use Rattle.std.proofs.lemmas.Bool.{and_parts, and_from, leb-true, eqb-true, cases_lt, lt-leb, lt-ltb, le-ltb, cond-true, cond-false}
-use Rattle.std.specs.Option.{option_map}
+use Rattle.std.proofs.lemmas.List.{take_all, take-append-drop, take_more, take-take, length-take-le, length_push, nil_from_length, get_or-take, get_or_push, get_or_default, get_or_append_left, get_or-append-add}
+use Rattle.std.proofs.lemmas.Bool.{and_parts, and_from, leb-true, leb-false, eqb-true, cases_lt, lt-leb, lt-ltb, le-ltb, cond-true, cond-false}
+use Rattle.std.specs.List.Sorted.{IsNonDecreasingBy, IsPartitionPoint}
+use Rattle.std.specs.Option.{IfSome, option_map}
+use Rattle.std.specs.declared.ops.Range.{Range}
+use Rattle.std.proofs.lemmas.List.Sorted.{IsNonDecreasingBy-from_default}
 use Rattle.model.specs.declared.Rule.{Rule}
 use Rattle.model.specs.Spelling.{Word, known, spell, spell_word}
 use Rattle.model.specs.Witnesses.{Entry, all_below, entries_fit, entry_fits}
@@ -13,7 +16,7 @@ use Rattle.model.proofs.Spelling.{joined-++, spell_older, length_spell_push}
 use Rattle.witness.specs.Answers.{as_text, fill_answer, filled, length_answer, letter_answer}
 use Rattle.witness.specs.Refusals.{refusal_number}
 use Rattle.witness.specs.Rows.{Found}
-use Rattle.witness.specs.Seats.{Counted, entries, tight}
+use Rattle.witness.specs.Seats.{Counted, cut_out, entries, tight}
 use Rattle.witness.specs.declared.refusals.WitnessRefusal.TheVariants.{PastWord}
 use Rattle.witness.specs.declared.seats.Seat.{Seat}
 use Rattle.witness.proofs.Filling.{filled_whole}
@@ -125,6 +128,37 @@ between_found rules letters end place low high le met b =
           omega (arith, ap (λ n. before rules letters (n + 1)) same, before_more rules letters low in_letters, ap (λ a. length (spell rules a)) (get_or-take end letters low 0 here), b.from);
     }
 
+-- the counts rise, so that a place is found among those of the first letters by halves
+module _ (rules : List Rule) (letters : Word) (ends : List ℕ) (end place : ℕ) (level : length ends ≡ length letters) (counted : Counted rules letters ends) (le : end ≤ length letters) where
+  end_read : (i d : ℕ) → i < end → get_or (take end ends) i d ≡ before rules letters (i + 1)
+  end_read i d lt = get_or-take end ends i d lt ∙ get_or_default ends i d 0 (omega arith) ∙ counted i (omega arith)
+
+  pub ends_rise : IsNonDecreasingBy (λ n. n) (take end ends)
+  ends_rise = IsNonDecreasingBy-from_default (λ n. n) (take end ends) 0 (λ i j order within.
+      let long : length (take end ends) ≡ end = length-take-le end ends (omega arith) in
+      omega (arith, end_read i 0 (omega arith), end_read j 0 (omega arith), length_between rules letters (i + 1) (j + 1) (omega arith)))
+
+  pub point_found : (i : ℕ) → i ≤ length (take end ends) → IsPartitionPoint (λ n. leb n place ≡ true) (λ n. leb n place ≡ false) (take end ends) i → (before rules letters i ≤ place) × Found rules (take end letters) place i (place - before rules letters i)
+  point_found i upto point = (from, between_found rules letters end place i i le (omega arith) (record { order = omega arith; within = within; from = from; to = to }))
+    where
+      long : length (take end ends) ≡ end
+      long = length-take-le end ends (omega arith)
+
+      within : i ≤ end
+      within = omega (arith, long)
+
+      from : before rules letters i ≤ place
+      from = ⊎_elim
+          (λ (none : i < 1). let first : i ≡ 0 = omega arith in omega (arith, ap (before rules letters) first))
+          (λ (some : 1 ≤ i).
+          let last : i - 1 < end = omega (arith, within) in
+          let back : (i - 1) + 1 ≡ i = omega arith in
+          omega (arith, leb-true (get_or (take end ends) (i - 1) 0) place (point.0 (i - 1) 0 (omega arith) (omega arith)), end_read (i - 1) 0 last, ap (before rules letters) back))
+          (cases_lt i 1)
+
+      to : i < end → place < before rules letters (i + 1)
+      to lt = omega (arith, leb-false (get_or (take end ends) i 0) place (point.1 i 0 (omega arith) (omega (arith, long))), end_read i 0 lt)
+
 -- the letter at a place of a word
 pub letter_between : (rules : List Rule) (letters : Word) (start end place index skip : ℕ) → start ≤ end → place < length (spell_word rules (drop start (take end letters))) → Found rules (take end letters) (before rules letters start + place) index skip → (index < length (take end letters)) × (get_or (spell_word rules (drop start (take end letters))) place 0 ≡ get_or (spell rules (get_or (take end letters) index 0)) skip 0)
 letter_between rules letters start end place index skip le lt f =
@@ -138,6 +172,10 @@ letter_between rules letters start end place index skip le lt f =
 -- of all letters
 pub upto_all : (rules : List Rule) (letters : Word) (n r : ℕ) → n ≡ length letters → r ≡ before rules letters n → r ≡ length (spell_word rules letters)
 upto_all rules letters n r long is = is ∙ ap (λ w. length (spell_word rules w)) (take_all n letters (omega arith))
+
+-- the word of a variable that has one
+pub stood : (letters : Word) (o : Option Word) (r : Option (Range ℕ)) (span : Range ℕ) → r ≡ Some span → option_map (λ s. cut_out s letters) r ≡ o → IfSome r (λ s. (s.start ≤ s.end) × (s.end ≤ length letters)) → (Some (drop span.start (take span.end letters)) ≡ o) × ((span.start ≤ span.end) × (span.end ≤ length letters))
+stood letters o r span is word within = (ap (option_map (λ s. cut_out s letters)) (sym is) ∙ word, subst (λ x. IfSome x (λ s. (s.start ≤ s.end) × (s.end ≤ length letters))) is within)
 
 -- the answers about a word between two places of the letters
 module _ (rules : List Rule) (letters : Word) (start end : ℕ) (le : start ≤ end) (o : Option Word) (is : Some (drop start (take end letters)) ≡ o) where
@@ -170,12 +208,11 @@ module _ (rules : List Rule) (letters : Word) (start end : ℕ) (le : start ≤ 
       let inside : index < length (take end letters) = (letter_between rules letters start end place index skip le within (subst (λ n. Found rules (take end letters) (n + place) index skip) from f)).0 in
       omega (arith, length-take-le end letters under)
 
-  pub letter_there : (place index skip letter : ℕ) → end ≤ length letters → all_below (known rules) letters ≡ true → index < end → Found rules (take end letters) place index skip → letter ≡ get_or letters index letter → (letter ≡ get_or (take end letters) index 0) × ((letter < known rules) × (skip < length (spell rules letter)))
+  pub letter_there : (place index skip letter : ℕ) → end ≤ length letters → all_below (known rules) letters ≡ true → index < end → Found rules (take end letters) place index skip → letter ≡ get_or letters index 0 → (letter ≡ get_or (take end letters) index 0) × ((letter < known rules) × (skip < length (spell rules letter)))
   letter_there place index skip letter under low lt f read =
       let in_letters : index < length letters = omega arith in
       let inside : index < length (take end letters) = omega (arith, length-take-le end letters under) in
-      let same : letter ≡ get_or letters index 0 = get_or_read letters index letter in_letters read 0 in
-      let here : letter ≡ get_or (take end letters) index 0 = same ∙ sym (get_or-take end letters index 0 lt) in
+      let here : letter ≡ get_or (take end letters) index 0 = read ∙ sym (get_or-take end letters index 0 lt) in
       (here, (omega (arith, below_at (known rules) letters index low in_letters), omega (arith, f.inside inside, ap (λ c. length (spell rules c)) here)))
 
   pub fill_refused : (from_place a b : ℕ) (old : List ℕ) → a ≡ before rules letters end → b ≡ before rules letters start → a - b < from_place + length old → (Err PastWord ≡ fill_answer (option_map (spell_word rules) o) from_place (length old)) × ((62 ≡ refusal_number (option_map (spell_word rules) o)) × (old ≡ filled (option_map (spell_word rules) o) from_place old))

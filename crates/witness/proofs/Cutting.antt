@@ -1,8 +1,8 @@
 -- Letters that seats cut into words: what fits, one more rule, word or letter, and the word of a variable. Assumes nothing.
-use Rattle.std.proofs.Common.{◌≡◌, ℕ, suc, ◌+◌, ◌-◌, ◌<◌, ◌≤◌, true, false, cond, eqb, leb, List, [], ◌∷◌, ◌++◌, reverse, length, get_or, take, drop, Some, sym, refl, ap, ◌∙◌, subst, ap₂, arith, lit≤}
+use Rattle.std.proofs.Common.{◌≡◌, ℕ, suc, ◌+◌, ◌-◌, ◌<◌, ◌≤◌, true, false, cond, eqb, leb, List, [], ◌∷◌, ◌++◌, reverse, length, get_or, take, drop, Some, None, sym, refl, ap, ◌∙◌, ap₂, arith, lit≤}
 use lib.Seq.{drop-append-le, take-append-le}
-use Rattle.std.proofs.lemmas.List.{get_or_default, take_all, take_more, take-take, drop_all, length-take-le, length-drop, length_push}
-use Rattle.std.proofs.lemmas.Bool.{and_parts, and_from, leb-true, eqb-true, le-leb, cond-true, cond-false}
+use Rattle.std.proofs.lemmas.List.{take_all, take_more, take-take, drop_all, length-take-le, length-drop, length-reverse, length_push}
+use Rattle.std.proofs.lemmas.Bool.{and_parts, and_from, leb-true, eqb-true, le-leb, lt-leb, cond-true, cond-false}
 use Rattle.model.specs.declared.Rule.{Rule}
 use Rattle.model.specs.Spelling.{Word, known}
 use Rattle.model.specs.Witnesses.{Entry, entries_fit, entry_fits, least, letters_in, word_of}
@@ -31,6 +31,9 @@ entries_rise rules (e ∷ older) h =
 pub count_entries : (seats : List Seat) (letters : Word) → length (entries seats letters) ≡ length seats
 count_entries [] letters = refl
 count_entries (seat ∷ older) letters = ap suc (count_entries older (take seat.start letters))
+
+pub begun : (seats : List Seat) (letters : Word) (n : ℕ) → n ≡ length seats → 0 < n → leb (length (entries (reverse seats) letters)) 0 ≡ false
+begun seats letters n is some = lt-leb (length (entries (reverse seats) letters)) 0 (omega (arith, count_entries (reverse seats) letters, length-reverse seats))
 
 -- each letter lies in a word
 pub letters_in_entries : (seats : List Seat) (letters : Word) → tight (length letters) seats ≡ true → letters_in (entries seats letters) ≡ length letters
@@ -91,35 +94,32 @@ push_fits rules (e ∷ older) a low few h =
     (from_after rules older (record { variable = e.variable; word = e.word ++ (a ∷ []) }) (record { rises = f.rises; named = f.named; low = below_push (known rules) e.word a f.low low; few = omega (arith, length_push e.word a) }))
     p.1
 
--- seats gone through from the newest: those before i are left, with the letters before `end`
-pub record Before (seats : List Seat) (letters : Word) (x i end : ℕ) : Type 0 where
-  pub whole : tight end (reverse (take i seats)) ≡ true
+-- seats gone through from the newest: those of `before` are left, with the letters before `end`
+pub record Before (seats before : List Seat) (letters : Word) (x end : ℕ) : Type 0 where
+  pub whole : tight end (reverse before) ≡ true
   pub within : end ≤ length letters
-  pub same : word_of (entries (reverse (take i seats)) (take end letters)) x ≡ word_of (entries (reverse seats) letters) x
+  pub same : word_of (entries (reverse before) (take end letters)) x ≡ word_of (entries (reverse seats) letters) x
 
-pub before_all : (seats : List Seat) (letters : Word) (x : ℕ) → tight (length letters) (reverse seats) ≡ true → Before seats letters x (length seats) (length letters)
-before_all seats letters x h =
-    let all : take (length seats) seats ≡ seats = take_all (length seats) seats (omega arith) in
-    record {
-      whole = ap (λ s. tight (length letters) (reverse s)) all ∙ h;
-      within = omega arith;
-      same = (λ i. word_of (entries (reverse (all i)) ((take_all (length letters) letters (omega arith)) i)) x);
-    }
+pub before_all : (seats : List Seat) (letters : Word) (x : ℕ) → tight (length letters) (reverse seats) ≡ true → Before seats seats letters x (length letters)
+before_all seats letters x h = record { whole = h; within = omega arith; same = ap (λ l. word_of (entries (reverse seats) l) x) (take_all (length letters) letters (omega arith)) }
 
--- the last seat before i, and those before it
-pub record Last (seats : List Seat) (letters : Word) (x i end : ℕ) (seat : Seat) : Type 0 where
+-- none is left
+pub before_none : (seats before : List Seat) (letters : Word) (x end : ℕ) → before ≡ [] → Before seats before letters x end → None ≡ word_of (entries (reverse seats) letters) x
+before_none seats before letters x end none b = sym (ap (λ s. word_of (entries (reverse s) (take end letters)) x) none) ∙ b.same
+
+-- the last seat that is left, and those before it
+pub record Last (seats older : List Seat) (letters : Word) (x end : ℕ) (seat : Seat) : Type 0 where
   pub low : seat.start ≤ end
   pub here : eqb x seat.variable ≡ true → word_of (entries (reverse seats) letters) x ≡ Some (drop seat.start (take end letters))
-  pub past : eqb x seat.variable ≡ false → Before seats letters x i seat.start
+  pub past : eqb x seat.variable ≡ false → Before seats older letters x seat.start
 
-pub last_before : (seats : List Seat) (letters : Word) (x i end : ℕ) (seat : Seat) → i < length seats → get_or seats i seat ≡ seat → Before seats letters x (i + 1) end → Last seats letters x i end seat
-last_before seats letters x i end seat lt is b =
-    let older = reverse (take i seats) in
-    let split : reverse (take (i + 1) seats) ≡ seat ∷ older = ap reverse (take_more seats i seat lt ∙ ap (λ s. take i seats ++ (s ∷ [])) is) ∙ newest_reverse (take i seats) seat in
-    let p = and_parts (leb seat.start end) (tight seat.start older) (sym (ap (tight end) split) ∙ b.whole) in
+pub last_before : (seats before older : List Seat) (letters : Word) (x end : ℕ) (seat : Seat) → before ≡ older ++ (seat ∷ []) → Before seats before letters x end → Last seats older letters x end seat
+last_before seats before older letters x end seat is b =
+    let split : reverse before ≡ seat ∷ reverse older = ap reverse is ∙ newest_reverse older seat in
+    let p = and_parts (leb seat.start end) (tight seat.start (reverse older)) (sym (ap (tight end) split) ∙ b.whole) in
     let low : seat.start ≤ end = leb-true seat.start end p.0 in
     let found = Some (drop seat.start (take end letters)) in
-    let rest = word_of (entries older (take seat.start (take end letters))) x in
+    let rest = word_of (entries (reverse older) (take seat.start (take end letters))) x in
     let at : word_of (entries (reverse seats) letters) x ≡ cond (eqb x seat.variable) found rest = sym b.same ∙ ap (λ s. word_of (entries s (take end letters)) x) split in
     record {
       low = low;
@@ -127,7 +127,7 @@ last_before seats letters x i end seat lt is b =
       past = λ t. record {
         whole = p.1;
         within = omega (arith, b.within);
-        same = ap (λ l. word_of (entries older l) x) (sym (take-take seat.start end letters low)) ∙ sym (cond-false (eqb x seat.variable) found rest t) ∙ sym at;
+        same = ap (λ l. word_of (entries (reverse older) l) x) (sym (take-take seat.start end letters low)) ∙ sym (cond-false (eqb x seat.variable) found rest t) ∙ sym at;
       };
     }
 
@@ -143,10 +143,3 @@ least_last seats letters seat some is =
 pub least_bound : (rules : List Rule) (es : List Entry) → entries_fit rules es ≡ true → least es ≤ 26
 least_bound rules [] h = lit≤ tt
 least_bound rules (e ∷ older) h = (newest_entry rules e older h).0.named
-
--- the same, where the seat is read
-pub last_read : (seats : List Seat) (letters : Word) (x i end : ℕ) (d : Seat) → 0 < i → i ≤ length seats → Before seats letters x i end → Last seats letters x (i - 1) end (get_or seats (i - 1) d)
-last_read seats letters x i end d some le b =
-    let back : i ≡ (i - 1) + 1 = omega arith in
-    let lt : i - 1 < length seats = omega arith in
-    last_before seats letters x (i - 1) end (get_or seats (i - 1) d) lt (get_or_default seats (i - 1) (get_or seats (i - 1) d) d lt) (subst (λ n. Before seats letters x n end) back b)

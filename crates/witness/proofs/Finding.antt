@@ -2,7 +2,7 @@
 use Rattle.std.proofs.Common.{◌≡◌, ℕ, zero, suc, ◌+◌, ◌-◌, ◌*◌, ◌/◌, ◌%◌, ◌<◌, ◌≤◌, max, true, ◌&&◌, ltb, List, [], ◌∷◌, ◌++◌, length, get_or, take, drop, replicate, Some, None, Option, unwrap_or, sym, refl, ap, ◌∙◌, ⊎_elim, append-nil, mod-lt, suc-mul, mul_comm, div-add-mod', zero-mul, div-le_self, arith}
 use native.Mathlib.Nat.{div-le_of_le-mul}
 use lib.Seq.{drop-append-add}
-use Rattle.std.proofs.lemmas.List.{drop_more, drop_all, get_or-drop, get_or_append_left, get_or-replicate, length-replicate, length-drop}
+use Rattle.std.proofs.lemmas.List.{take_all, drop_more, drop_all, get_or-drop, get_or_append_left, get_or-replicate, length-replicate, length-drop}
 use Rattle.std.proofs.lemmas.Bool.{and_parts, and_from, ltb-true, lt-ltb, le-ltb, cond-false, cases_lt}
 use Rattle.letters.specs.Holding.{length_of}
 use Rattle.letters.proofs.Judging.{length_known}
@@ -14,6 +14,13 @@ use Rattle.model.proofs.Spelling.{length_copies}
 use Rattle.model.proofs.Entries.{below_at, below_more}
 use Rattle.model.proofs.Fitting.{made_by, pair_lower, block_lower, spell_some}
 use Rattle.witness.specs.Rows.{parts, Found}
+
+-- the letters of a word from a place on
+pub rest_read : (w : Word) (i k : ℕ) → get_or (take (length w - i) (drop i w)) k 0 ≡ get_or w (i + k) 0
+rest_read w i k = ap (λ l. get_or l k 0) (take_all (length w - i) (drop i w) (omega (arith, length-drop i w))) ∙ get_or-drop i w k 0
+
+pub rest_long : (w : Word) (i : ℕ) → length (take (length w - i) (drop i w)) ≡ length w - i
+rest_long w i = ap length (take_all (length w - i) (drop i w) (omega (arith, length-drop i w))) ∙ length-drop i w
 
 -- the length of a known letter, with any default
 pub length_read : (rules : List Rule) (a d : ℕ) (o : Option ℕ) (n : ℕ) → a < known rules → o ≡ length_of rules a → n ≡ unwrap_or o d → n ≡ length (spell rules a)

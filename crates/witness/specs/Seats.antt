@@ -4,7 +4,7 @@ use Rattle.model.specs.declared.Rule.{Rule}
 use Rattle.model.specs.Spelling.{Word, spell_word}
 use Rattle.model.specs.Witnesses.{Entry}
 use Rattle.witness.specs.declared.seats.Seat.{Seat}
-use Rattle.witness.specs.declared.seats.Span.{Span}
+use Rattle.std.specs.declared.ops.Range.{Range}
 
 -- the newest word goes to the end of the letters, and an older one to where the next starts
 abbrev pub entries : List Seat → Word → List Entry
@@ -17,7 +17,7 @@ tight n [] = n == 0
 tight n (seat ∷ older) = nat_le seat.start n && tight seat.start older
 
 -- the letters of a word: those from its start to its end
-abbrev pub cut_out : Span → Word → Word
+abbrev pub cut_out : Range ℕ → Word → Word
 cut_out span letters = drop span.start (take span.end letters)
 
 -- beside each letter stands how many letters those up to it spell

@@ -5,16 +5,11 @@ ghost use Rattle.witness.specs.Holding.{contents_of, nothing};
 
 use crate::refusals::{LetterRefusal, WordRefusal};
 use crate::seats::Seat;
-use crate::store::Witness;
+use crate::store::{MOST_LETTERS, VARIABLES, Witness};
 use letters::Letters;
 use model::{Rule, RuleRefusal};
+use reserved::Reserved;
 use std::alloc::{AllocError, Global};
-
-// All words together have no more letters.
-const MOST_LETTERS: usize = 1024;
-
-// There are as many variables, A to Z.
-const VARIABLES: u8 = 26;
 
 // Making a witness: rules and letters are added one by one, and what would break it is refused and changes nothing.
 impl Witness {
@@ -23,9 +18,9 @@ impl Witness {
         ensures { IfOk result (λ w. contents_of w ≡ nothing) }
     {
         let made = Letters::new(heap)?;
-        let letters = Vec::with_capacity(heap, MOST_LETTERS)?;
-        let ends = Vec::with_capacity(heap, MOST_LETTERS)?;
-        let seats = Vec::with_capacity(heap, VARIABLES as usize)?;
+        let letters = Reserved::new(heap)?;
+        let ends = Reserved::new(heap)?;
+        let seats = Reserved::new(heap)?;
         Ok(Witness {
             made,
             letters,
@@ -57,7 +52,7 @@ impl Witness {
     fn least(&self) -> u16
         ensures { result ≡ least (contents_of self.now).entries }
     {
-        match self.seats.last() {
+        match self.seats.as_slice().last() {
             Some(seat) => u16::from(seat.variable) + 1,
             None => 0,
         }
@@ -69,14 +64,14 @@ impl Witness {
             (λ _. (word_refusal (contents_of self.old) variable ≡ None) × (contents_of self.new ≡ with_word variable (contents_of self.old)))
             (λ e. (word_refusal (contents_of self.old) variable ≡ Some e) × (contents_of self.new ≡ contents_of self.old)) }
     {
-        if variable >= VARIABLES {
+        if usize::from(variable) >= VARIABLES {
             return Err(WordRefusal::NoSuchVariable);
         }
         if u16::from(variable) < self.least() {
             return Err(WordRefusal::NotRising);
         }
         let start = self.letters.len();
-        self.seats.push_reserved(Seat { variable, start });
+        self.seats.push(Seat { variable, start }).unwrap();
         Ok(())
     }
 
@@ -86,18 +81,16 @@ impl Witness {
             (λ _. (letter_refusal (contents_of self.old) letter ≡ None) × (contents_of self.new ≡ with_letter letter (contents_of self.old)))
             (λ e. (letter_refusal (contents_of self.old) letter ≡ Some e) × (contents_of self.new ≡ contents_of self.old)) }
     {
-        if self.seats.is_empty() {
+        if self.seats.len() == 0 {
             return Err(LetterRefusal::NoWord);
         }
-        if letter >= self.made.known() {
-            return Err(LetterRefusal::UnknownLetter);
-        }
-        if self.letters.len() >= MOST_LETTERS {
-            return Err(LetterRefusal::TooManyLetters);
-        }
-        let total = self.upto(self.letters.len()) + self.made.length(letter).unwrap_or(0);
-        self.letters.push_reserved(letter);
-        self.ends.push_reserved(total);
+        let length = self
+            .made
+            .length(letter)
+            .ok_or(LetterRefusal::UnknownLetter)?;
+        let total = self.upto(self.letters.len()) + length;
+        self.letters.push(letter)?;
+        self.ends.push(total).unwrap();
         Ok(())
     }
 }

@@ -11,10 +11,11 @@ ghost use Rattle.witness.specs.Rows.{Found};
 ghost use Rattle.witness.specs.Seats.{cut_out, entries, tight};
 
 use crate::refusals::WitnessRefusal;
-use crate::seats::{Seat, Span};
+use crate::seats::Seat;
 use crate::spelling::{Spot, fill_word, letter_at};
 use crate::store::Witness;
 use model::Rule;
+use std::ops::Range;
 
 // Whatever calls led to it, a witness keeps its limits, its letters are known and its variables rise.
 pub fn every_witness_is_valid() -> u8
@@ -36,20 +37,19 @@ impl WitnessRefusal {
 }
 
 // Where the word of a variable stands, among the letters that the seats cut into words.
-fn find(seats: &[Seat], letters: &[u16], variable: u8) -> Option<Span>
+fn find(seats: &[Seat], letters: &[u16], variable: u8) -> Option<Range<usize>>
     requires { tight (length letters.now) (reverse seats.now) ≡ true }
     ensures word { option_map (λ span. cut_out span letters.now) result ≡ word_of (entries (reverse seats.now) letters.now) variable }
     ensures within { IfSome result (λ span. (span.start ≤ span.end) × (span.end ≤ length letters.now)) }
 {
     let mut end = letters.len();
-    let mut i = seats.len();
-    while i > 0 {
-        i -= 1;
-        let start = seats[i].start;
-        if seats[i].variable == variable {
-            return Some(Span { start, end });
+    let mut before = seats;
+    while let Some((seat, older)) = before.split_last() {
+        if seat.variable == variable {
+            return Some(seat.start..end);
         }
-        end = start;
+        end = seat.start;
+        before = older;
     }
     None
 }
@@ -64,29 +64,31 @@ impl Witness {
     }
 
     // Where the word of a variable stands.
-    fn span(&self, variable: u8) -> Option<Span>
-        ensures word { option_map (λ span. cut_out span self.now.letters.items) result ≡ word_of (contents_of self.now).entries variable }
-        ensures within { IfSome result (λ span. (span.start ≤ span.end) × (span.end ≤ length self.now.letters.items)) }
+    fn span(&self, variable: u8) -> Option<Range<usize>>
+        ensures word { option_map (λ span. cut_out span self.now.letters) result ≡ word_of (contents_of self.now).entries variable }
+        ensures within { IfSome result (λ span. (span.start ≤ span.end) × (span.end ≤ length self.now.letters)) }
     {
         find(self.seats.as_slice(), self.letters.as_slice(), variable)
     }
 
     // How many letters the letters before a place of them spell.
     pub(crate) fn upto(&self, i: usize) -> u64
-        requires { i ≤ length self.now.letters.items }
-        ensures { result ≡ length (spell_word (rules_of self.now.made) (take i self.now.letters.items)) }
+        requires { i ≤ length self.now.letters }
+        ensures { result ≡ length (spell_word (rules_of self.now.made) (take i self.now.letters)) }
     {
-        if i == 0 { 0 } else { self.ends[i - 1] }
+        if i == 0 {
+            0
+        } else {
+            self.ends.as_slice()[i - 1]
+        }
     }
 
     // The word of a variable, if it has one.
     pub fn word(&self, variable: u8) -> Option<&[u16]>
         ensures { option_map (λ x. x.now) result ≡ word_of (contents_of self.now).entries variable }
     {
-        match self.span(variable) {
-            Some(Span { start, end }) => Some(&self.letters.as_slice()[start..end]),
-            None => None,
-        }
+        let span = self.span(variable)?;
+        Some(&self.letters.as_slice()[span])
     }
 
     // The length of what a variable's word spells: at most 1,024 times 1,000,000,000,000, so it fits.
@@ -94,30 +96,19 @@ impl Witness {
         ensures answer { result ≡ length_answer (spelled (contents_of self.now) variable) }
         ensures number { IfErr result (λ e. witness_number e ≡ refusal_number (spelled (contents_of self.now) variable)) }
     {
-        match self.span(variable) {
-            Some(Span { start, end }) => Ok(self.upto(end) - self.upto(start)),
-            None => Err(WitnessRefusal::Absent),
-        }
+        let Range { start, end } = self.span(variable).ok_or(WitnessRefusal::Absent)?;
+        Ok(self.upto(end) - self.upto(start))
     }
 
     // Where a place of what the letters before `end` spell is found, by halves.
     fn search(&self, end: usize, place: u64) -> Spot
-        requires { end ≤ length self.now.letters.items }
-        ensures { Found (rules_of self.now.made) (take end self.now.letters.items) place result.index result.skip }
+        requires { end ≤ length self.now.letters }
+        ensures { Found (rules_of self.now.made) (take end self.now.letters) place result.index result.skip }
     {
-        let mut low = 0;
-        let mut high = end;
-        while low < high {
-            let middle = low + (high - low) / 2;
-            if place < self.ends[middle] {
-                high = middle;
-            } else {
-                low = middle + 1;
-            }
-        }
+        let index = self.ends.as_slice()[..end].partition_point(|upto| *upto <= place);
         Spot {
-            index: low,
-            skip: place - self.upto(low),
+            index,
+            skip: place - self.upto(index),
         }
     }
 
@@ -126,15 +117,13 @@ impl Witness {
         ensures answer { result ≡ letter_answer (spelled (contents_of self.now) variable) place }
         ensures number { IfErr result (λ e. witness_number e ≡ refusal_number (spelled (contents_of self.now) variable)) }
     {
-        let Some(Span { start, end }) = self.span(variable) else {
-            return Err(WitnessRefusal::Absent);
-        };
+        let Range { start, end } = self.span(variable).ok_or(WitnessRefusal::Absent)?;
         let before = self.upto(start);
         if place >= self.upto(end) - before {
             return Err(WitnessRefusal::PastWord);
         }
         let spot = self.search(end, before + place);
-        Ok(letter_at(&self.made, self.letters[spot.index], spot.skip))
+        Ok(letter_at(&self.made, self.letters.as_slice()[spot.index], spot.skip))
     }
 
     // Fills a buffer with the letters a to z of what a variable's word spells, from a place on.
@@ -143,9 +132,7 @@ impl Witness {
         ensures number { IfErr result (λ e. witness_number e ≡ refusal_number (spelled (contents_of self.now) variable)) }
         ensures holds { buffer.new ≡ filled (spelled (contents_of self.now) variable) start buffer.old }
     {
-        let Some(span) = self.span(variable) else {
-            return Err(WitnessRefusal::Absent);
-        };
+        let span = self.span(variable).ok_or(WitnessRefusal::Absent)?;
         let end = span.end;
         let before = self.upto(span.start);
         let length = self.upto(end) - before;
@@ -155,7 +142,7 @@ impl Witness {
         let spot = self.search(end, before + start);
         fill_word(
             &self.made,
-            &self.letters.as_slice()[0..end],
+            &self.letters.as_slice()[..end],
             before + start,
             spot,
             buffer,

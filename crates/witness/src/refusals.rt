@@ -1,3 +1,8 @@
+ghost use Rattle.std.specs.Prelude.{◌≡◌};
+ghost use Rattle.witness.specs.declared.refusals.LetterRefusal.TheVariants.{TooManyLetters};
+
+use reserved::Full;
+
 // Why a word may not be started.
 #[derive(Clone, Copy, PartialEq, Eq, Debug)]
 pub enum WordRefusal {
@@ -16,6 +21,15 @@ pub enum LetterRefusal {
     UnknownLetter,
     // all words together have 1,024 letters
     TooManyLetters,
+}
+
+// No letter is added to a full list.
+impl From<Full> for LetterRefusal {
+    ghost from_gives = { λ _ why. why ≡ TooManyLetters };
+
+    fn from(_full: Full) -> LetterRefusal {
+        LetterRefusal::TooManyLetters
+    }
 }
 
 // Why a witness does not answer.

@@ -43,8 +43,8 @@ fn scan(letters: &Letters, word: &[u16], place: u64) -> Spot
     ensures { Found (rules_of letters.now) word.now place result.index result.skip }
 {
     let mut skip = place;
-    for index in 0..word.len() {
-        let length = letters.length(word[index]).unwrap_or(0);
+    for (index, letter) in word.iter().enumerate() {
+        let length = letters.length(*letter).unwrap_or(0);
         if skip < length {
             return Spot { index, skip };
         }
@@ -100,14 +100,14 @@ fn fill_letter(letters: &Letters, letter: u16, start: u64, out: &mut [u8], at: u
     match letters.rule(letter) {
         Some(rule) => {
             let spot = locate(letters, rule, start);
-            let count = count(rule);
-            let mut i = spot.index;
             let mut skip = spot.skip;
             let mut end = at;
-            while i < count && end < out.len() {
+            for i in spot.index..count(rule) {
+                if end >= out.len() {
+                    break;
+                }
                 end = fill_letter(letters, part(rule, i), skip, out, end);
                 skip = 0;
-                i += 1;
             }
             end
         }
@@ -130,13 +130,14 @@ pub(crate) fn fill_word(
     requires at { Found (rules_of letters.now) word.now start spot.index spot.skip }
     ensures { Put out.old 0 (as_text (take (length out.old) (drop start (spell_word (rules_of letters.now) word.now)))) out.new result }
 {
-    let mut i = spot.index;
     let mut skip = spot.skip;
     let mut end = 0;
-    while i < word.len() && end < out.len() {
-        end = fill_letter(letters, word[i], skip, out, end);
+    for letter in &word[spot.index..] {
+        if end >= out.len() {
+            break;
+        }
+        end = fill_letter(letters, *letter, skip, out, end);
         skip = 0;
-        i += 1;
     }
     end
 }

@@ -1,23 +1,23 @@
-use Rattle.std.proofs.Common.{◌-◌, get_or, sym, arith}
+use Rattle.std.proofs.Common.{sym}
 use Rattle.std.proofs.lemmas.Bool.{eq-eqb, ne_eqb}
-use Rattle.witness.specs.declared.seats.Seat.{Seat}
-use Rattle.witness.proofs.Cutting.{before_all, last_read}
+use Rattle.std.proofs.lemmas.List.{nil_from_length}
+use Rattle.witness.proofs.Cutting.{before_all, before_none, last_before}
 use Rattle.witness.proofs.read.find.Goals as goal
 
-abbrev blank : Seat
-blank = record { variable = 0; start = 0 }
+pub loop-seat-init : goal.loop-seat-init
+loop-seat-init c = before_all c.args.seats.now c.args.letters.now c.args.variable c.requires
 
-pub loop-i-init : goal.loop-i-init
-loop-i-init c = (omega arith, before_all c.args.seats.now c.args.letters.now c.args.variable c.requires)
+pub returns-then-seat-variable : goal.returns-then-seat-variable
+returns-then-seat-variable c =
+    let seat = c.in-Some.seat.now in
+    let last = last_before c.args.seats.now c.loop-seat.before.now c.in-Some.older.now c.args.letters.now c.args.variable c.loop-seat.end seat c.in-Some.ensures.cases.0 c.loop-seat.invariant in
+    record { word = sym (last.here (eq-eqb c.args.variable seat.variable (sym c.if-seat-variable.true))); within = (last.low, c.loop-seat.invariant.within) }
 
-pub returns-then-seats-i : goal.returns-then-seats-i
-returns-then-seats-i c =
-    let last = last_read c.args.seats.now c.args.letters.now c.args.variable c.loop-i.i c.loop-i.end blank c.loop-i-test.true c.loop-i.invariant.0 c.loop-i.invariant.1 in
-    let seat = get_or c.args.seats.now (c.loop-i.i - 1) blank in
-    record { word = sym (last.here (eq-eqb c.args.variable seat.variable (sym c.if-seats-i.true))); within = (last.low, c.loop-i.invariant.1.within) }
+pub loop-seat-preserved : goal.loop-seat-preserved
+loop-seat-preserved c =
+    let seat = c.in-Some.seat.now in
+    let last = last_before c.args.seats.now c.loop-seat.before.now c.in-Some.older.now c.args.letters.now c.args.variable c.loop-seat.end seat c.in-Some.ensures.cases.0 c.loop-seat.invariant in
+    last.past (ne_eqb c.args.variable seat.variable (λ e. c.if-seat-variable.false (sym e)))
 
-pub loop-i-preserved : goal.loop-i-preserved
-loop-i-preserved c =
-    let last = last_read c.args.seats.now c.args.letters.now c.args.variable c.loop-i.i c.loop-i.end blank c.loop-i-test.true c.loop-i.invariant.0 c.loop-i.invariant.1 in
-    let seat = get_or c.args.seats.now (c.loop-i.i - 1) blank in
-    (omega (arith, c.loop-i.invariant.0), last.past (ne_eqb c.args.variable seat.variable (λ e. c.if-seats-i.false (sym e))))
+pub returns-clause-word : goal.returns-clause-word
+returns-clause-word c = before_none c.args.seats.now c.loop-seat.before.now c.args.letters.now c.args.variable c.loop-seat.end (nil_from_length c.loop-seat.before.now c.in_default.ensures.cases) c.loop-seat.invariant

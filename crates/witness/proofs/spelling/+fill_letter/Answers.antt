@@ -23,7 +23,7 @@ fill_letter-end-requires t c =
     let s = c.args.letters.now in
     let lt : c.loop-i.i < length (parts c.in-Some.rule) = omega arith in
     let part = part_of (rules_of s) c.args.letter c.in-Some.rule c.loop-i.i c.part.result s.fit (sym c.in-Some.ensures) lt c.part.ensures in
-    (omega (arith, part.lowers, c.decreases), (part.known_letter, (omega (arith, c.loop-i.invariant.inside lt, ap (λ a. length (spell (rules_of s) a)) c.part.ensures), c.if-end-out.true)))
+    (omega (arith, part.lowers, c.decreases), (part.known_letter, (omega (arith, c.loop-i.invariant.inside lt, ap (λ a. length (spell (rules_of s) a)) c.part.ensures), omega arith)))
 
 pub loop-i-preserved : goal.loop-i-preserved
 loop-i-preserved t c =
@@ -47,10 +47,10 @@ overflow_add-out t c =
     let basic : c.args.letter < 26 = no_rule_basic (rules_of c.args.letters.now) c.args.letter (sym c.in-None.ensures) c.requires.known in
     omega arith
 
-pub returns-else-end-out : goal.returns-else-end-out
-returns-else-end-out t c =
+pub returns-then-end-out : goal.returns-then-end-out
+returns-then-end-out t c =
     let s = c.args.letters.now in
-    made_filled (rules_of s) c.args.letter c.in-Some.rule _ _ _ _ _ _ _ s.fit (sym c.in-Some.ensures) c.loop-i.invariant (inr c.if-end-out.false)
+    made_filled (rules_of s) c.args.letter c.in-Some.rule _ _ _ _ _ _ _ s.fit (sym c.in-Some.ensures) c.loop-i.invariant (inr c.if-end-out.true)
 
 pub returns-after-loop-i : goal.returns-after-loop-i
 returns-after-loop-i t c =

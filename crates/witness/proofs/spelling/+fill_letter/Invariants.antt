@@ -1,4 +1,3 @@
-use Rattle.std.proofs.Common.{◌-◌}
 use Rattle.letters.specs.Holding.{rules_of}
 use Rattle.witness.specs.Rows.{parts}
 use Rattle.witness.proofs.Filling.{Filling}
@@ -9,6 +8,3 @@ decreases-fill_letter l = l.letter
 
 abbrev pub invariant-loop-i : goal.invariant-loop-i
 invariant-loop-i l = Filling (rules_of l.letters) (parts l.rule) l.start l.initial.out l.at l.i l.skip l.out l.end
-
-abbrev pub decreases-loop-i : goal.decreases-loop-i
-decreases-loop-i l = l.count - l.i

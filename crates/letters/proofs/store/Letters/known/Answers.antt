@@ -5,4 +5,4 @@ use Rattle.letters.proofs.store.Letters.known.Goals as goal
 pub returns : goal.returns
 returns c =
     let s = c.args.self.now in
-    record { value = omega (arith, length-reverse s.rules.items, s.rules.ok.0); bound = omega arith }
+    record { value = omega (arith, length-reverse s.rules); bound = omega arith }

@@ -20,13 +20,10 @@ still_counted old new rule letters ends (Err e) h low counted = subst (λ rules.
 pub invariant_of-self : goal.invariant_of-self
 invariant_of-self c =
     let s = c.args.self.now in
-    let low = letters_known (rules_of s.made) (reverse s.seats.items) s.letters.items s.whole s.fit in
+    let low = letters_known (rules_of s.made) (reverse s.seats) s.letters s.whole s.fit in
     record {
-      room = s.room;
       level = s.level;
-      along = s.along;
-      beside = s.beside;
       whole = s.whole;
-      fit = still_fits (rules_of s.made) (rules_of c.add.new.self) c.args.rule (entries (reverse s.seats.items) s.letters.items) c.add.result c.add.ensures s.fit;
-      counted = still_counted (rules_of s.made) (rules_of c.add.new.self) c.args.rule s.letters.items s.ends.items c.add.result c.add.ensures low s.counted;
+      fit = still_fits (rules_of s.made) (rules_of c.add.new.self) c.args.rule (entries (reverse s.seats) s.letters) c.add.result c.add.ensures s.fit;
+      counted = still_counted (rules_of s.made) (rules_of c.add.new.self) c.args.rule s.letters s.ends c.add.result c.add.ensures low s.counted;
     }
