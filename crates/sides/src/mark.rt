@@ -1,7 +1,7 @@
 use systems::Place;
 
 // A place of a side, or the end of one.
-#[derive(Clone, Copy)]
+#[derive(Clone, Copy, PartialEq, Eq, Debug)]
 pub enum Mark {
     End,
     At(Place),
