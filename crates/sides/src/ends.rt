@@ -9,6 +9,9 @@ ghost use Rattle.sides.specs.Seeking.{variable_at, is_end, first_side, after_sid
 use crate::mark::Mark;
 use systems::Place;
 
+// The last variable.
+const Z: u8 = 25;
+
 // The variable that stands here.
 fn variable(mark: Mark) -> Option<u8>
     ensures { result ≡ variable_at mark }
@@ -33,7 +36,7 @@ pub(crate) fn variables(marks: &[Mark]) -> [bool; 26]
     let mut found = [false; 26];
     for mark in marks {
         if let Some(x) = variable(*mark)
-            && x < 26
+            && x <= Z
         {
             found[usize::from(x)] = true;
         }
