@@ -1,4 +1,4 @@
-ghost use Rattle.std.specs.Prelude.{◌≡◌, ℕ, ◌+◌, ◌*◌, ◌<◌, ◌≤◌, false, [], ◌∷◌, ◌++◌, length, IfOk, if◌then◌else◌, Some, None, MatchResult, nat_eq, nat_lt, slice_index_or};
+ghost use Rattle.std.specs.Prelude.{◌≡◌, ℕ, ◌+◌, ◌*◌, ◌<◌, ◌≤◌, false, [], ◌∷◌, ◌++◌, length, IfOk, IfSome, if◌then◌else◌, Some, None, MatchResult, nat_eq, nat_lt, slice_index_or};
 ghost use Rattle.std.specs.List.{count_by};
 ghost use Rattle.systems.specs.Choices.{swap};
 ghost use Rattle.systems.specs.Loading.{load_refusal, loaded_too, side_of};
@@ -125,7 +125,8 @@ impl Sides {
 
     // The first equation, counted from 1, whose two sides differ.
     pub fn first_unequal(&self) -> Option<usize>
-        ensures { FirstUnequal result self.now }
+        ensures value { FirstUnequal result self.now }
+        ensures bound { IfSome result (λ k. k ≤ 32) }
     {
         ends::first_unequal(self.marks.as_slice(), self.number)
     }

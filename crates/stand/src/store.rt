@@ -1,7 +1,7 @@
-ghost use Rattle.std.specs.Prelude.{◌≡◌, [], reverse, is_some, IfOk, if◌then◌else◌};
+ghost use Rattle.std.specs.Prelude.{◌≡◌, ◌≤◌, true, [], reverse, length, is_some, IfOk, if◌then◌else◌};
 ghost use Rattle.std.specs.Option.{option_map};
 ghost use Rattle.std.specs.Result.{result_err};
-ghost use Rattle.model.specs.Witnesses.{rule_refusal};
+ghost use Rattle.model.specs.Witnesses.{rule_refusal, rules_fit};
 ghost use Rattle.systems.specs.Loading.{after_load, load_refusal};
 ghost use Rattle.systems.specs.Refusals.{after_choice, choice_number, choice_refusal, load_number, of_rule};
 ghost use Rattle.systems.specs.Standings.{fresh, new as nothing_loaded};
@@ -56,14 +56,16 @@ impl Stand {
 
     // The rules, the oldest first.
     pub fn rules(&self) -> &[Rule]
-        ensures { reverse result.now ≡ self.now.rules }
+        ensures value { reverse result.now ≡ self.now.rules }
+        ensures fit { rules_fit self.now.rules ≡ true }
     {
         self.letters.rules()
     }
 
     // The pops, in the order in which they came.
     pub fn pops(&self) -> &[Pop]
-        ensures { result.now ≡ self.now.pops }
+        ensures value { result.now ≡ self.now.pops }
+        ensures few { length result.now ≤ 1024 }
     {
         self.pops.as_slice()
     }
