@@ -3,16 +3,15 @@ use Rattle.std.specs.Prelude.{ℕ, Bool, false, cond, List, nat_lt, slice_index_
 use Rattle.systems.specs.declared.Choice.{Choice}
 use Rattle.systems.specs.Runs.{Load}
 use Rattle.systems.specs.Standings.{Standing}
-use Rattle.stand.specs.Holding.{standing_of}
 use Rattle.checker.specs.declared.store.Check.{Check}
 use Rattle.checker.specs.declared.store.System.{System}
 use Rattle.checker.specs.Running.{AfterRun}
 
 abbrev pub loading : System → Standing
-loading s = standing_of s.stand
+loading s = s.stand
 
 abbrev pub standing : Check → Standing
-standing c = standing_of c.stand
+standing c = c.stand
 
 -- those of A to Z that are marked
 abbrev pub marked : List Bool → ℕ → Bool

@@ -1,7 +1,6 @@
 ghost use Rattle.std.specs.Prelude.{◌≡◌, List, [], ◌∷◌, ◌++◌, IfOk};
 ghost use Rattle.std.specs.Option.{option_map};
 ghost use Rattle.std.specs.Result.{result_err};
-ghost use Rattle.sides.specs.Holding.{equations_of};
 ghost use Rattle.systems.specs.Loading.{after_load, load_refusal};
 ghost use Rattle.systems.specs.Refusals.{load_number};
 ghost use Rattle.systems.specs.Runs.{Load};
@@ -27,7 +26,7 @@ impl System {
 
     // The sides that are loaded.
     pub fn sides(&self) -> &Sides
-        ensures { equations_of result.now ≡ (loading self.now).equations }
+        ensures { result.now ≡ (loading self.now).equations }
     {
         self.stand.sides()
     }

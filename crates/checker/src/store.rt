@@ -1,4 +1,3 @@
-ghost use Rattle.stand.specs.Holding.{standing_of};
 ghost use Rattle.checker.specs.Running.{SomeLoads, SomeRun};
 
 use stand::Stand;
@@ -7,7 +6,7 @@ use stand::Stand;
 #[derive(Drop)]
 pub struct System {
     pub(crate) stand: Stand,
-    ghost run: { SomeLoads (standing_of stand) },
+    ghost run: { SomeLoads stand },
 }
 
 // A system that is opened: what stands, and which of A to Z are the variables of the system. Some loads and choices led to it.
@@ -15,5 +14,5 @@ pub struct System {
 pub struct Check {
     pub(crate) stand: Stand,
     pub(crate) system: [bool; 26],
-    ghost run: { SomeRun (standing_of stand) system },
+    ghost run: { SomeRun stand system },
 }

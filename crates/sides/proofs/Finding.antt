@@ -11,30 +11,23 @@ use Rattle.sides.specs.Seeking.{variable_at}
 use Rattle.sides.proofs.Ending.{or_none}
 use Rattle.sides.proofs.Flat.{or_assoc}
 
--- a variable that is found is one of A to Z, and stands there
-pub at_some : (m : Mark) (x : ℕ) → Some x ≡ variable_at m → (x < 26) × (m ≡ At (Variable x))
-at_some End x e = absurd (false≢true (sym (ap is_some e)))
-at_some (At (Letter a)) x e = absurd (false≢true (sym (ap is_some e)))
-at_some (At (Variable y)) x e =
-    ⊎_elim
-    (λ (low : ltb y 26 ≡ true).
-    let found : ◌≡◌ {A = Option ℕ} (Some x) (Some y) = e ∙ cond-true (ltb y 26) (Some y) None low in
-    let same : x ≡ y = cc in
-    let lt : y < 26 = ltb-true y 26 low in
-    (omega arith, ap (λ z. At (Variable z)) (sym same)))
-    (λ (high : ltb y 26 ≡ false).
-    let none : ◌≡◌ {A = Option ℕ} (Some x) None = e ∙ cond-false (ltb y 26) (Some y) None high in
-    absurd (false≢true (sym (ap is_some none))))
-    (cases_Bool (ltb y 26))
+-- a variable that is found stands there
+pub at_some : (m : Mark) (x : ℕ) → Some x ≡ variable_at m → m ≡ At (Variable x)
+at_some End x e = cc
+at_some (At (Letter a)) x e = cc
+at_some (At (Variable y)) x e = cc
 
--- where none is found, none of them stands
-pub at_none : (m : Mark) (y : ℕ) → y < 26 → None ≡ variable_at m → lifted (is_variable y) m ≡ false
-at_none End y lt e = refl
-at_none (At (Letter a)) y lt e = refl
-at_none (At (Variable x)) y lt e =
-    ne_eqb y x (λ is. let low : x < 26 = omega arith in
-    let none : ◌≡◌ {A = Option ℕ} None (Some x) = e ∙ cond-true (ltb x 26) (Some x) None (lt-ltb x 26 low) in
-    false≢true (ap is_some none))
+-- and no other does
+pub at_other : (m : Mark) (x y : ℕ) → Some x ≡ variable_at m → y ≢ x → lifted (is_variable y) m ≡ false
+at_other End x y e ne = refl
+at_other (At (Letter a)) x y e ne = refl
+at_other (At (Variable z)) x y e ne = ne_eqb y z (λ d. ne cc)
+
+-- where none is found, none stands
+pub at_none : (m : Mark) (y : ℕ) → None ≡ variable_at m → lifted (is_variable y) m ≡ false
+at_none End y e = refl
+at_none (At (Letter a)) y e = refl
+at_none (At (Variable x)) y e = cc
 
 -- at first nothing is noted
 pub none_yet : (n y : ℕ) → get_or (replicate n false) y false ≡ false

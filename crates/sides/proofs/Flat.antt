@@ -2,8 +2,9 @@
 use Rattle.std.proofs.Common.{◌≡◌, ℕ, zero, suc, ◌+◌, ◌*◌, ◌<◌, Bool, true, false, cond, ◌&&◌, ◌||◌, eqb, ltb, List, [], ◌∷◌, ◌++◌, map, length, replicate, is_some, Some, None, Option, sym, refl, ap, ◌∙◌, ap₂, append_assoc, add-mul, arith}
 use mathlib.Core.List.{map-append}
 use Rattle.std.proofs.lemmas.List.{length-append, length-map}
+use Rattle.std.proofs.lemmas.List.Sums.{sum_by-cons, sum_by-append}
 use Rattle.std.proofs.lemmas.Bool.{cond-false, ne_eqb, lt-ltb, and_parts, false≢true}
-use Rattle.std.specs.List.{flat_map}
+use Rattle.std.specs.List.{count_by, flat_map}
 use Rattle.systems.specs.declared.Place.{Place}
 use Rattle.systems.specs.declared.Place.TheVariants.{Letter, Variable}
 use Rattle.systems.specs.Choices.{swap}
@@ -13,7 +14,7 @@ use Rattle.systems.specs.Sides.{Side, Equation, sides, on_sides, places, is_lett
 use Rattle.sides.specs.declared.mark.Mark.{Mark}
 use Rattle.sides.specs.declared.mark.Mark.TheVariants.{End, At}
 use Rattle.sides.specs.Holding.{all_places}
-use Rattle.sides.specs.Marks.{lifted, flat, onto, sides_of, pair_up, equations_in, marks_of, Whole, how_many, count_of, mark_swap, mark_pairs, mark_blocks}
+use Rattle.sides.specs.Marks.{lifted, flat, onto, sides_of, pair_up, equations_in, marks_of, Whole, count_of, mark_swap, mark_pairs, mark_blocks}
 
 -- there and back
 
@@ -157,10 +158,13 @@ pub places_length : (ms : List Mark) → Whole ms → length ms ≡ places (equa
 unfolding marks_of
 places_length ms h = omega (arith, ap length h, length_marks (equations_in ms))
 
+count_more : (x : ℕ) (m : Mark) (ms : List Mark) → count_of x (m ∷ ms) ≡ cond (lifted (is_variable x) m) 1 0 + count_of x ms
+count_more x = sum_by-cons (λ m. cond (lifted (is_variable x) m) 1 0)
+
 -- what a row in each place of x adds and takes
 pub swap_length : (x : ℕ) (v : Side) (ms : List Mark) → length (mark_swap x v ms) + count_of x ms ≡ length ms + count_of x ms * length v
 swap_length x v [] = omega arith
-swap_length x v (m ∷ ms) = at (lifted (is_variable x) m) (swap_length x v ms)
+swap_length x v (m ∷ ms) = rw (count_more x m ms) (at (lifted (is_variable x) m) (swap_length x v ms))
   where
     at : (b : Bool) → length (mark_swap x v ms) + count_of x ms ≡ length ms + count_of x ms * length v → length (cond b (map At v) (m ∷ []) ++ mark_swap x v ms) + (cond b 1 0 + count_of x ms) ≡ suc (length ms) + (cond b 1 0 + count_of x ms) * length v
     at true ih = omega (arith, length-append (map At v) (mark_swap x v ms), length-map v At, add-mul 1 (count_of x ms) (length v))
@@ -168,19 +172,17 @@ swap_length x v (m ∷ ms) = at (lifted (is_variable x) m) (swap_length x v ms)
 
 -- how many places x has
 
-count-++ : {A : Type 0} (p : A → Bool) (xs ys : List A) → how_many p (xs ++ ys) ≡ how_many p xs + how_many p ys
-count-++ p [] ys = omega arith
-count-++ p (x ∷ xs) ys = omega (arith, count-++ p xs ys)
-
-count_at : (p : Place → Bool) (s : Side) → how_many (lifted p) (map At s) ≡ how_many p s
+count_at : (p : Place → Bool) (s : Side) → count_by (lifted p) (map At s) ≡ count_by p s
 count_at p [] = refl
-count_at p (x ∷ s) = ap (λ n. cond (p x) 1 0 + n) (count_at p s)
+count_at p (x ∷ s) = omega (arith, sum_by-cons (λ m. cond (lifted p m) 1 0) (At x) (map At s), sum_by-cons (λ q. cond (p q) 1 0) x s, count_at p s)
 
-count_flat : (x : ℕ) (ss : List Side) → count_of x (flat ss) ≡ how_many (is_variable x) (flat_map (λ s. s) ss)
+count_flat : (x : ℕ) (ss : List Side) → count_of x (flat ss) ≡ count_by (is_variable x) (flat_map (λ s. s) ss)
 count_flat x [] = refl
-count_flat x (s ∷ ss) = omega (arith, count-++ (lifted (is_variable x)) (map At s) (End ∷ flat ss), count_at (is_variable x) s, count_flat x ss, count-++ (is_variable x) s (flat_map (λ t. t) ss))
+count_flat x (s ∷ ss) =
+    omega (arith, sum_by-append (λ m. cond (lifted (is_variable x) m) 1 0) (map At s) (End ∷ flat ss), count_more x End (flat ss), count_at (is_variable x) s, count_flat x ss,
+    sum_by-append (λ q. cond (is_variable x q) 1 0) s (flat_map (λ t. t) ss))
 
-pub count_all : (x : ℕ) (ms : List Mark) → Whole ms → count_of x ms ≡ how_many (is_variable x) (all_places (equations_in ms))
+pub count_all : (x : ℕ) (ms : List Mark) → Whole ms → count_of x ms ≡ count_by (is_variable x) (all_places (equations_in ms))
 unfolding marks_of
 count_all x ms h = ap (count_of x) (sym h) ∙ count_flat x (sides (equations_in ms))
 
@@ -199,10 +201,10 @@ one_if true = refl
 one_if false = refl
 
 count_side : (x : ℕ) (s : Side) (ms : List Mark) → (any (is_variable x) s || ltb 0 (count_of x ms)) ≡ ltb 0 (count_of x (map At s ++ (End ∷ ms)))
-count_side x [] ms = sym (some-+ 0 (count_of x ms))
+count_side x [] ms = let none : count_of x ms ≡ count_of x (End ∷ ms) = omega (arith, count_more x End ms) in ap (ltb 0) none
 count_side x (p ∷ s) ms =
     or_assoc (is_variable x p) (any (is_variable x) s) (ltb 0 (count_of x ms)) ∙ ap (λ b. is_variable x p || b) (count_side x s ms) ∙
-    ap (λ b. b || ltb 0 (count_of x (map At s ++ (End ∷ ms)))) (sym (one_if (is_variable x p))) ∙ sym (some-+ (cond (is_variable x p) 1 0) (count_of x (map At s ++ (End ∷ ms))))
+    ap (λ b. b || ltb 0 (count_of x (map At s ++ (End ∷ ms)))) (sym (one_if (is_variable x p))) ∙ sym (some-+ (cond (is_variable x p) 1 0) (count_of x (map At s ++ (End ∷ ms)))) ∙ ap (ltb 0) (sym (count_more x (At p) (map At s ++ (End ∷ ms))))
 
 count_sides : (x : ℕ) (ss : List Side) → any (any (is_variable x)) ss ≡ ltb 0 (count_of x (flat ss))
 count_sides x [] = refl
@@ -232,4 +234,4 @@ length_side_of (b ∷ bs) e =
 pub count_some : (x : ℕ) (ms : List Mark) → any (lifted (is_variable x)) ms ≡ ltb 0 (count_of x ms)
 count_some x [] = refl
 count_some x (m ∷ ms) =
-    ap (λ b. lifted (is_variable x) m || b) (count_some x ms) ∙ ap (λ b. b || ltb 0 (count_of x ms)) (sym (one_if (lifted (is_variable x) m))) ∙ sym (some-+ (cond (lifted (is_variable x) m) 1 0) (count_of x ms))
+    ap (λ b. lifted (is_variable x) m || b) (count_some x ms) ∙ ap (λ b. b || ltb 0 (count_of x ms)) (sym (one_if (lifted (is_variable x) m))) ∙ sym (some-+ (cond (lifted (is_variable x) m) 1 0) (count_of x ms)) ∙ ap (ltb 0) (sym (count_more x m ms))

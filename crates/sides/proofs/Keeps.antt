@@ -1,14 +1,12 @@
 -- What a pass keeps, and how many places stand after it. Assumes nothing.
-use Rattle.std.proofs.Common.{◌≡◌, ℕ, ◌+◌, ◌*◌, ◌≤◌, true, List, [], ◌∷◌, ◌++◌, length, vec_items, sym, refl, ap, ◌∙◌, ap₂, arith}
+use Rattle.std.proofs.Common.{◌≡◌, ℕ, ◌+◌, ◌*◌, ◌≤◌, true, List, [], ◌∷◌, ◌++◌, length, sym, refl, ap, ◌∙◌, ap₂, arith}
 use Rattle.std.proofs.lemmas.List.{length-map}
 use Rattle.systems.specs.Choices.{swap}
 use Rattle.systems.specs.Loading.{readable, side_of}
 use Rattle.systems.specs.Sides.{Side, Equation, on_sides, places}
 use Rattle.sides.specs.declared.mark.Mark.{Mark}
-use Rattle.sides.specs.declared.store.Sides.{Sides}
-use Rattle.sides.specs.Holding.{equations_of}
-use Rattle.sides.specs.Marks.{equations_in, Whole, count_of, mark_swap}
-use Rattle.sides.proofs.Flat.{places_length, swap_length, swap_holds, places_more, length_side_of}
+use Rattle.sides.specs.Marks.{equations_in, Whole, Kept, count_of, mark_swap}
+use Rattle.sides.proofs.Flat.{places_length, swap_length, swap_holds, places_more, length_side_of, none_hold, none_whole}
 
 module _ (r : Side → Side) (ms ms' : List Mark) (n : ℕ) (e : (equations_in ms' ≡ on_sides r (equations_in ms)) × Whole ms') (counted : n ≡ length (equations_in ms)) where
   pub still_counted : n ≡ length (equations_in ms')
@@ -28,5 +26,12 @@ pub places_loaded : (E : List Equation) (l r : List ℕ) → readable l ≡ true
 places_loaded E l r el er = places_more E (side_of l) (side_of r) ∙ ap₂ (λ m n. places E + (m + n)) (length_side_of l el) (length_side_of r er)
 
 -- no more than 2,048 places ever stand
-pub few_places : (s : Sides) → places (equations_of s) ≤ 2048
-few_places s = omega (arith, places_length (vec_items s.marks) s.whole, s.marks.ok.0, s.counted, s.short)
+pub few_places : (ms : List Mark) (n : ℕ) → Kept ms n → places (equations_in ms) ≤ 2048
+few_places ms n k = omega (arith, places_length ms k.whole, k.counted, k.short)
+
+-- a pass that lets no more places stand keeps the rest
+pub kept : (r : Side → Side) (ms ms' : List Mark) (n : ℕ) → Kept ms n → (equations_in ms' ≡ on_sides r (equations_in ms)) × Whole ms' → length ms' ≤ 2048 + 2 * n → Kept ms' n
+kept r ms ms' n k e short = record { whole = e.1; counted = still_counted r ms ms' n e k.counted; few = k.few; short = short }
+
+pub none_kept : Kept [] 0
+none_kept = record { whole = none_whole; counted = sym (ap length none_hold); few = omega arith; short = omega arith }

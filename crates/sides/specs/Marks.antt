@@ -1,6 +1,6 @@
 -- All sides as one list of marks, the equations that a list of marks holds, and what each pass makes of it. Assumes nothing.
-use Rattle.std.specs.Prelude.{◌≡◌, ℕ, ◌+◌, Bool, false, cond, List, [], ◌∷◌, ◌++◌, map}
-use Rattle.std.specs.List.{flat_map}
+use Rattle.std.specs.Prelude.{◌≡◌, ℕ, ◌+◌, ◌*◌, ◌≤◌, Bool, false, cond, List, [], ◌∷◌, ◌++◌, map, length}
+use Rattle.std.specs.List.{count_by, flat_map}
 use Rattle.systems.specs.declared.Place.{Place}
 use Rattle.systems.specs.declared.Place.TheVariants.{Letter}
 use Rattle.systems.specs.Rows.{replace_pairs, replace_blocks}
@@ -42,19 +42,21 @@ marks_of equations = flat (sides equations)
 abbrev pub Whole : List Mark → Type 0
 Whole marks = marks_of (equations_in marks) ≡ marks
 
+-- the marks hold so many equations, and no more of them or of their places than may be
+pub record Kept (marks : List Mark) (number : ℕ) : Type 0 where
+  pub whole : Whole marks
+  pub counted : number ≡ length (equations_in marks)
+  pub few : number ≤ 32
+  pub short : length marks ≤ 2048 + 2 * number
+
 -- a test of places, at marks: an end passes none
 abbrev pub lifted : (Place → Bool) → Mark → Bool
 lifted p End = false
 lifted p (At place) = p place
 
--- how many elements pass the test
-abbrev pub how_many : {A : Type 0} → (A → Bool) → List A → ℕ
-how_many p [] = 0
-how_many p (x ∷ xs) = cond (p x) 1 0 + how_many p xs
-
 -- how many marks are places of x
 abbrev pub count_of : ℕ → List Mark → ℕ
-count_of x = how_many (lifted (is_variable x))
+count_of x = count_by (lifted (is_variable x))
 
 -- what becomes of a mark where the variable x becomes the row v
 abbrev pub mark_swapped : ℕ → Side → Mark → List Mark

@@ -4,7 +4,6 @@
 
 mod ends;
 mod mark;
-mod methods;
 mod passes;
 mod store;
 mod text;

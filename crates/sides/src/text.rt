@@ -1,8 +1,8 @@
 // Sides as text.
-ghost use Rattle.std.specs.Prelude.{◌≡◌, ◌+◌, ◌≤◌, ◌++◌, map, length, vec_len, vec_capacity};
+ghost use Rattle.std.specs.Prelude.{◌≡◌, ◌+◌, ◌≤◌, ◌++◌, map, length};
 ghost use Rattle.systems.specs.Loading.{place_of, readable, side_of};
 
-use crate::mark::Mark;
+use crate::mark::{Mark, Marks, put};
 use systems::Place;
 
 // The place that a byte stands for.
@@ -20,25 +20,18 @@ fn read(b: u8) -> Option<Place>
 pub(crate) fn is_text(bytes: &[u8]) -> bool
     ensures { result ≡ readable bytes.now }
 {
-    for b in bytes {
-        if read(*b).is_none() {
-            return false;
-        }
-    }
-    true
+    bytes.iter().all(|b| read(*b).is_some())
 }
 
 // Writes the places that the bytes stand for.
-pub(crate) fn put_text(out: &mut Vec<Mark>, bytes: &[u8])
-    requires room { vec_len out.old + length bytes.now ≤ vec_capacity out.old }
-    ensures items { out.new.items ≡ out.old.items ++ map Mark.At (side_of bytes.now) }
-    ensures capacity { vec_capacity out.new ≡ vec_capacity out.old }
-    ensures bound { vec_len out.new ≤ vec_len out.old + length bytes.now }
+pub(crate) fn put_text(out: &mut Marks, bytes: &[u8])
+    requires room { length out.old + length bytes.now ≤ 2112 }
+    ensures items { out.new ≡ out.old ++ map Mark.At (side_of bytes.now) }
+    ensures bound { length out.new ≤ length out.old + length bytes.now }
 {
     for b in bytes {
-        match read(*b) {
-            Some(place) => out.push_reserved(Mark::At(place)),
-            None => {}
+        if let Some(place) = read(*b) {
+            put(out, Mark::At(place));
         }
     }
 }

@@ -1,9 +1,12 @@
 -- Parts of what a choice does: a letter popped, a rule made. Assumes nothing.
 use Rattle.std.specs.Prelude.{◌≡◌, ℕ, ◌<◌, cond, [], ◌∷◌, ◌++◌, length, is_some, Some, None, Option, nat_lt}
 use Rattle.model.specs.declared.Rule.{Rule}
+use Rattle.systems.specs.declared.Choice.{Choice}
+use Rattle.systems.specs.declared.Choice.TheVariants.{Left, Right}
 use Rattle.systems.specs.declared.ChoiceRefusal.{ChoiceRefusal}
 use Rattle.systems.specs.declared.ChoiceRefusal.TheVariants.{TooManyPlaces}
 use Rattle.systems.specs.declared.Pop.{Pop}
+use Rattle.systems.specs.declared.Pop.TheVariants.{AtLeft, AtRight}
 use Rattle.systems.specs.Choices.{swap}
 use Rattle.systems.specs.Refusals.{pop_refusal}
 use Rattle.systems.specs.Sides.{Side, on_sides, places}
@@ -14,6 +17,11 @@ abbrev pub RefusesBeforePlaces : Standing → ℕ → ℕ → Option ChoiceRefus
 RefusesBeforePlaces S x a (Some why) = (n : ℕ) → pop_refusal S x a n ≡ Some why
 RefusesBeforePlaces S x a None = ((n : ℕ) → pop_refusal S x a n ≡ cond (nat_lt 2048 n) (Some TooManyPlaces) None) × (length S.pops < 1024)
 
+-- the choice that pops this letter
+abbrev pub popping : Pop → Choice
+popping (AtLeft x a) = Left x a
+popping (AtRight x a) = Right x a
+
 -- what stands with a row for x and one more pop
 abbrev pub with_pop : Standing → ℕ → Side → Pop → Standing
 with_pop S x row pop = record { equations = on_sides (swap x row) S.equations; rules = S.rules; pops = S.pops ++ (pop ∷ []) }
@@ -21,8 +29,3 @@ with_pop S x row pop = record { equations = on_sides (swap x row) S.equations; r
 -- what stands with one more rule
 abbrev pub with_rule : Standing → Rule → Standing
 with_rule S rule = record { equations = S.equations; rules = rule ∷ S.rules; pops = S.pops }
-
--- the refusal, and what stands then, where the letter a is popped from x by putting the row
-pub record Popped (S : Standing) (x a : ℕ) (row : Side) (pop : Pop) (why : Option ChoiceRefusal) (S' : Standing) : Type 0 where
-  pub refusal : why ≡ pop_refusal S x a (places (on_sides (swap x row) S.equations))
-  pub stands : S' ≡ cond (is_some why) S (with_pop S x row pop)

@@ -2,7 +2,6 @@
 
 #![tactic(auto)]
 
-mod methods;
 mod store;
 
 pub use store::Stand;

@@ -4,8 +4,10 @@
 
 ghost use Rattle.std.specs.Prelude.{◌≡◌};
 ghost use Rattle.systems.specs.Examples.{WorkedExamples};
-ghost use Rattle.systems.specs.Refusals.{choice_detail, choice_number, load_number};
+ghost use Rattle.systems.specs.Refusals.{choice_detail, choice_number, load_number, of_rule};
 ghost use Rattle.systems.specs.Theorems.{CallsDecideWhatStands, Complete, CrossingIsAnOccurrence, ReplacingIsExact, RunsAreWellFormed, Sound, SoundAtEnd, ValuesFollowSpelling};
+
+use model::RuleRefusal;
 
 // A place of a side: a letter, where 0 to 25 are a to z and the letters made later follow; or a variable, from A as 0.
 #[derive(Clone, Copy, PartialEq, Eq, Debug)]
@@ -111,6 +113,21 @@ impl ChoiceRefusal {
             | ChoiceRefusal::TooManyRules
             | ChoiceRefusal::TooManyPops
             | ChoiceRefusal::TooLong => None,
+        }
+    }
+}
+
+// A choice that makes a rule is refused as the rule is.
+impl From<RuleRefusal> for ChoiceRefusal {
+    ghost from_gives = { λ why refusal. refusal ≡ of_rule why };
+
+    fn from(why: RuleRefusal) -> ChoiceRefusal {
+        match why {
+            RuleRefusal::UnknownLetter => ChoiceRefusal::UnknownLetter,
+            RuleRefusal::EqualLetters => ChoiceRefusal::EqualLetters,
+            RuleRefusal::CountOutOfRange => ChoiceRefusal::CountOutOfRange,
+            RuleRefusal::TooManyRules => ChoiceRefusal::TooManyRules,
+            RuleRefusal::TooLong => ChoiceRefusal::TooLong,
         }
     }
 }

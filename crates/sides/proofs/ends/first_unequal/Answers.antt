@@ -1,7 +1,8 @@
-use Rattle.std.proofs.Common.{◌≡◌, ◌+◌, ◌-◌, ◌<◌, ◌≤◌, List, [], ◌∷◌, ◌++◌, map, length, take, drop, sym, ap, ◌∙◌, subst, arith}
+use Rattle.std.proofs.Common.{◌≡◌, ◌+◌, ◌-◌, ◌<◌, ◌≤◌, List, [], ◌∷◌, ◌++◌, map, length, take, drop, sym, ap, ◌∙◌, subst, not, Decides, arith, rules}
 use Rattle.std.proofs.lemmas.List.{take_all}
 use Rattle.std.proofs.ByRecursion.{All-more}
 use Rattle.std.proofs.lemmas.Bool.{both_ways}
+use Rattle.std.proofs.lemmas.Slice.Eq.{slice_eq-Decides}
 use Rattle.std.specs.List.{AllByRecursion}
 use Rattle.systems.specs.Sides.{Equation, SameSides}
 use Rattle.sides.specs.declared.mark.Mark.{Mark}
@@ -9,7 +10,7 @@ use Rattle.sides.specs.declared.mark.Mark.TheVariants.{End, At}
 use Rattle.sides.specs.Marks.{marks_of, equations_in}
 use Rattle.sides.proofs.Ending.{at_equation, open_one, front, behind, ends, same_map}
 use Rattle.sides.proofs.ends.first_unequal.Goals as goal
-use Rattle.sides.proofs.ends.first_unequal.Goals.{In-loop-k, After-same}
+use Rattle.sides.proofs.ends.first_unequal.Goals.{In-loop-k, After-ne}
 
 abbrev here : (c : In-loop-k) → Equation
 here c = at_equation (equations_in c.args.marks.now) c.loop-k.k
@@ -33,9 +34,9 @@ split-requires-in-loop-k c =
     ends c.split.result.1.now (here p).1 (marks_of (drop (c.loop-k.k + 1) (equations_in c.args.marks.now))) (c.split.ensures.rest ∙ behind c.loop-k.rest.now (here p).0 (half p) (opened p))
 
 -- what the two splits gave
-parts : (c : After-same) → let p = (goal.at.After-same c).In-loop-k in (c.split.result.0.now ≡ map At (here p).0) × (c.split-in-loop-k.result.0.now ≡ map At (here p).1) × (c.split-in-loop-k.result.1.now ≡ marks_of (drop (c.loop-k.k + 1) (equations_in c.args.marks.now)))
+parts : (c : After-ne) → let p = (goal.at.After-ne c).In-loop-k in (c.split.result.0.now ≡ map At (here p).0) × (c.split-in-loop-k.result.0.now ≡ map At (here p).1) × (c.split-in-loop-k.result.1.now ≡ marks_of (drop (c.loop-k.k + 1) (equations_in c.args.marks.now)))
 parts c =
-    let p = (goal.at.After-same c).In-loop-k in
+    let p = (goal.at.After-ne c).In-loop-k in
     let rest = c.loop-k.rest.now in
     let last = marks_of (drop (c.loop-k.k + 1) (equations_in c.args.marks.now)) in
     let second = c.split.ensures.rest ∙ behind rest (here p).0 (half p) (opened p) in (
@@ -44,26 +45,30 @@ parts c =
       c.split-in-loop-k.ensures.rest ∙ behind c.split.result.1.now (here p).1 last second,
     )
 
-pub returns-then-not-same : goal.returns-then-not-same
-returns-then-not-same c =
-    let q = (goal.at.returns-then-not-same c).After-same in
-    let p = (goal.at.After-same q).In-loop-k in
+-- the two sides are compared by their marks
+same : (c : After-ne) → Decides (not c.ne.result) (c.split.result.0.now ≡ c.split-in-loop-k.result.0.now)
+same c = search (rules, slice_eq-Decides)
+
+pub returns-then-ne : goal.returns-then-ne
+returns-then-ne c =
+    let q = (goal.at.returns-then-ne c).After-ne in
+    let p = (goal.at.After-ne q).In-loop-k in
     let e = parts q in
     let E = equations_in c.args.marks.now in
     let k : c.loop-k.k ≡ (c.loop-k.k + 1) - 1 = omega arith in (
       omega arith,
       omega (arith, inside p),
       subst (λ i. AllByRecursion SameSides (take i E)) k c.loop-k.invariant.1,
-      subst (λ i. SameSides (at_equation E i) → ⊥) k (λ equal. both_ways c.same.result c.if-not-same.true (c.same.ensures.1 (e.0 ∙ ap (map At) equal ∙ sym e.1))),
+      subst (λ i. SameSides (at_equation E i) → ⊥) k (λ equal. both_ways (not c.ne.result) (ap not c.if-ne.true) ((same q).1 (e.0 ∙ ap (map At) equal ∙ sym e.1))),
     )
 
 pub loop-k-preserved : goal.loop-k-preserved
 loop-k-preserved c =
-    let q = (goal.at.loop-k-preserved c).After-same in
-    let p = (goal.at.After-same q).In-loop-k in
+    let q = (goal.at.loop-k-preserved c).After-ne in
+    let p = (goal.at.After-ne q).In-loop-k in
     let e = parts q in (
       e.2,
-      All-more SameSides (equations_in c.args.marks.now) c.loop-k.k ([], []) (inside p) c.loop-k.invariant.1 (same_map (here p).0 (here p).1 (sym e.0 ∙ c.same.ensures.0 c.if-not-same.false ∙ e.1)),
+      All-more SameSides (equations_in c.args.marks.now) c.loop-k.k ([], []) (inside p) c.loop-k.invariant.1 (same_map (here p).0 (here p).1 (sym e.0 ∙ (same q).0 (ap not c.if-ne.false) ∙ e.1)),
     )
 
 pub returns : goal.returns

@@ -1,4 +1,4 @@
-use Rattle.std.proofs.Common.{◌≡◌, ◌+◌, ◌≤◌, ◌++◌, drop, vec_items, vec_len, vec_capacity}
+use Rattle.std.proofs.Common.{◌≡◌, ◌+◌, ◌≤◌, ◌++◌, length, drop}
 use Rattle.systems.specs.declared.Place.TheVariants.{Letter}
 use Rattle.systems.specs.Rows.{replace_blocks}
 use Rattle.systems.specs.Sides.{is_letter}
@@ -8,6 +8,5 @@ use Rattle.sides.proofs.passes.put_blocks.Given as goal
 
 abbrev pub invariant-loop-mark : goal.invariant-loop-mark
 invariant-loop-mark l =
-    (vec_items l.out ++ replace_blocks (lifted (is_letter l.a)) (At (Letter l.a)) l.n (At (Letter l.new)) l.count (drop l.mark-index l.marks) ≡ mark_blocks l.a l.n l.new l.marks)
-    × (vec_capacity l.out ≡ vec_capacity l.initial.out)
-    × (vec_len l.out + l.count ≤ l.mark-index)
+    (l.out ++ replace_blocks (lifted (is_letter l.a)) (At (Letter l.a)) l.n (At (Letter l.new)) l.count (drop l.mark-index l.marks) ≡ mark_blocks l.a l.n l.new l.marks)
+    × (length l.out + l.count ≤ l.mark-index)

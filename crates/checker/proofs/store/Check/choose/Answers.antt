@@ -1,7 +1,6 @@
 use Rattle.std.proofs.Common.{refl, ap}
 use Rattle.std.specs.Option.{option_map}
 use Rattle.systems.specs.Refusals.{choice_number}
-use Rattle.stand.specs.Holding.{standing_of}
 use Rattle.checker.proofs.Runs.{choice_more, some_choice_more}
 use Rattle.checker.proofs.store.Check.choose.Goals as goal
 
@@ -9,7 +8,7 @@ pub invariant_of-self : goal.invariant_of-self
 invariant_of-self c =
     let old = c.args.self.now in
     record {
-      run = some_choice_more c.args.choice (standing_of old.stand) (standing_of c.choose.new.self) old.system old.run c.choose.ensures.stands;
+      run = some_choice_more c.args.choice old.stand c.choose.new.self old.system old.run c.choose.ensures.stands;
     }
 
 pub returns : goal.returns
@@ -20,5 +19,5 @@ returns c =
       number = ap (option_map choice_number) c.choose.ensures.refusal;
       stands = c.choose.ensures.stands;
       system = refl;
-      run = λ loads choices run. choice_more loads choices c.args.choice (standing_of old.stand) (standing_of c.choose.new.self) old.system run c.choose.ensures.stands;
+      run = λ loads choices run. choice_more loads choices c.args.choice old.stand c.choose.new.self old.system run c.choose.ensures.stands;
     }

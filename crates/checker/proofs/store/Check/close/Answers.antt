@@ -27,8 +27,8 @@ first_failing-requires g c =
     let s : Check = c.args.self.now in
     let k = c.args.kind.now in
     let m : Meaning g.row.K-Value.Denot = meaning (g.K.Measure.single k) (g.K.Measure.nothing k) (g.K.Measure.joined k) (g.K.Measure.passed k) in
-    is_filled m (standing s) c.args.table.now c.fill_values.new.table c.rules-rules.result.now c.rules-rules.ensures (c.unfinished.ensures.suffices c.in_default.is) (λ e. c.fill_values.ensures.filled (c.fill_values.ensures.taken ∙ e))
-    s.stand.letters.fit
+    is_filled m (standing s) c.args.table.now c.fill_values.new.table c.rules-rules.result.now c.rules-rules.ensures.value (c.unfinished.ensures.suffices c.in_default.is) (λ e. c.fill_values.ensures.filled (c.fill_values.ensures.taken ∙ e))
+    c.rules-rules.ensures.fit
 
 pub returns-in-Some-first_failing : goal.returns-in-Some-first_failing
 returns-in-Some-first_failing g c =
@@ -39,7 +39,7 @@ returns-in-Some-first_failing g c =
     let new = c.fill_values.new.table in
     let old : Contents = contents_of c.args.witness.now in
     let all : new ≡ filled_table m (standing s) table =
-    filled_is m (standing s) table new c.rules-rules.result.now c.rules-rules.ensures (c.unfinished.ensures.suffices c.in_default.is) (λ e. c.fill_values.ensures.filled (c.fill_values.ensures.taken ∙ e)) s.stand.letters.fit c.fill_values.auto.table c.fill_values.ensures.rest in
+    filled_is m (standing s) table new c.rules-rules.result.now c.rules-rules.ensures.value (c.unfinished.ensures.suffices c.in_default.is) (λ e. c.fill_values.ensures.filled (c.fill_values.ensures.taken ∙ e)) c.rules-rules.ensures.fit c.fill_values.auto.table c.fill_values.ensures.rest in
     let x = c.in-Some-first_failing.x in
     let is : closed (Some (Fails x)) new old ≡ close m (system_of s) (standing s) table old = fails_first m (standing s) (system_of s) table old c.in_default.ensures.reason new all x (sym c.first_failing.ensures ∙ c.in-Some-first_failing.is) in
     record { answer = is; number = ap (λ r. option_map close_number r.answer) is; guarantee = guaranteed m (g.K.Measure.associative k) (g.K.Measure.neutral k) s table old _ is }
@@ -48,9 +48,9 @@ pub write-requires : goal.write-requires
 write-requires g c =
     let s : Check = c.args.self.now in
     record {
-      few = omega (arith, s.stand.few, s.stand.pops.ok.0, ap length c.pops.ensures);
-      rules_fit = ap rules_fit c.rules-rules.ensures ∙ s.stand.letters.fit;
-      words_fit = ap₂ (λ rules pops. entries_fit rules (popped_entries (system_of s) pops)) c.rules-rules.ensures c.pops.ensures ∙ words_fit (standing s) s.system s.run (system_of s);
+      few = c.pops.ensures.few;
+      rules_fit = ap rules_fit c.rules-rules.ensures.value ∙ c.rules-rules.ensures.fit;
+      words_fit = ap₂ (λ rules pops. entries_fit rules (popped_entries (system_of s) pops)) c.rules-rules.ensures.value c.pops.ensures.value ∙ words_fit (standing s) s.system s.run (system_of s);
     }
 
 pub returns : goal.returns
@@ -62,9 +62,9 @@ returns g c =
     let new = c.fill_values.new.table in
     let old : Contents = contents_of c.args.witness.now in
     let all : new ≡ filled_table m (standing s) table =
-    filled_is m (standing s) table new c.rules-rules.result.now c.rules-rules.ensures (c.unfinished.ensures.suffices c.in_default.is) (λ e. c.fill_values.ensures.filled (c.fill_values.ensures.taken ∙ e)) s.stand.letters.fit c.fill_values.auto.table c.fill_values.ensures.rest in
+    filled_is m (standing s) table new c.rules-rules.result.now c.rules-rules.ensures.value (c.unfinished.ensures.suffices c.in_default.is) (λ e. c.fill_values.ensures.filled (c.fill_values.ensures.taken ∙ e)) c.rules-rules.ensures.fit c.fill_values.auto.table c.fill_values.ensures.rest in
     let written : Contents = contents_of c.write.new.witness in
     let words : written ≡ witness (system_of s) (standing s) =
-    c.write.ensures ∙ (λ i. record { rules = c.rules-rules.ensures i; entries = popped_entries (system_of s) (c.pops.ensures i) }) ∙ ap (λ es. record { rules = (standing s).rules; entries = es }) (popped_are (system_of s) (standing s)) in
+    c.write.ensures ∙ (λ i. record { rules = c.rules-rules.ensures.value i; entries = popped_entries (system_of s) (c.pops.ensures.value i) }) ∙ ap (λ es. record { rules = (standing s).rules; entries = es }) (popped_are (system_of s) (standing s)) in
     let is : closed None new written ≡ close m (system_of s) (standing s) table old = accepts m (standing s) (system_of s) table old c.in_default.ensures.reason new all written (sym c.first_failing.ensures ∙ c.in_default-first_failing.is) words in
     record { answer = is; number = ap (λ r. option_map close_number r.answer) is; guarantee = guaranteed m (g.K.Measure.associative k) (g.K.Measure.neutral k) s table old _ is }

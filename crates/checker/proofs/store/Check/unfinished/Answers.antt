@@ -17,14 +17,14 @@ lives c o h = first_is (live (standing c)) (low_where_live (standing c) c.system
 pub returns-then-room-rules : goal.returns-then-room-rules
 returns-then-room-rules c =
     let S : Standing = standing c.args.self.now in
-    let short : c.args.room < fresh S = omega (arith, c.if-room-rules.true, length-reverse c.rules.result.now, ap length c.rules.ensures) in
+    let short : c.args.room < fresh S = omega (arith, c.if-room-rules.true, length-reverse c.rules.result.now, ap length c.rules.ensures.value) in
     record { reason = by_room S c.args.room short; untouched = refl; suffices = λ e. let z : ◌≡◌ {A = ℕ} 0 1 = cc in absurd (omega arith) }
 
 pub returns-in-Some : goal.returns-in-Some
 returns-in-Some c =
     let s : Check = c.args.self.now in
     let S : Standing = standing s in
-    let fits : fresh S ≤ c.args.room = omega (arith, c.if-room-rules.false, length-reverse c.rules.result.now, ap length c.rules.ensures) in
+    let fits : fresh S ≤ c.args.room = omega (arith, c.if-room-rules.false, length-reverse c.rules.result.now, ap length c.rules.ensures.value) in
     let o = c.first_live.result in
     let h : First o (live S) = subst (λ E. First o (stands_in E)) c.sides-sides.ensures c.first_live.ensures in
     record { reason = by_live S c.args.room fits o (lives s o h) c.in-Some.x c.in-Some.is; untouched = refl; suffices = λ _. fits }
@@ -33,20 +33,20 @@ pub returns-in-Some-first_unequal : goal.returns-in-Some-first_unequal
 returns-in-Some-first_unequal c =
     let s : Check = c.args.self.now in
     let S : Standing = standing s in
-    let fits : fresh S ≤ c.args.room = omega (arith, c.if-room-rules.false, length-reverse c.rules.result.now, ap length c.rules.ensures) in
+    let fits : fresh S ≤ c.args.room = omega (arith, c.if-room-rules.false, length-reverse c.rules.result.now, ap length c.rules.ensures.value) in
     let o = c.first_live.result in
     let k = c.first_unequal.result in
     let h : First o (live S) = subst (λ E. First o (stands_in E)) c.sides-sides.ensures c.first_live.ensures in
-    let d : FirstUnequal k S.equations = subst (FirstUnequal k) c.sides-sides.ensures c.first_unequal.ensures in
+    let d : FirstUnequal k S.equations = subst (FirstUnequal k) c.sides-sides.ensures c.first_unequal.ensures.value in
     record { reason = by_sides S c.args.room fits o (lives s o h) (Some c.in-Some-first_unequal.i) c.in_default.is (differing_is S.equations k d ∙ c.in-Some-first_unequal.is); untouched = refl; suffices = λ _. fits }
 
 pub returns-in-None : goal.returns-in-None
 returns-in-None c =
     let s : Check = c.args.self.now in
     let S : Standing = standing s in
-    let fits : fresh S ≤ c.args.room = omega (arith, c.if-room-rules.false, length-reverse c.rules.result.now, ap length c.rules.ensures) in
+    let fits : fresh S ≤ c.args.room = omega (arith, c.if-room-rules.false, length-reverse c.rules.result.now, ap length c.rules.ensures.value) in
     let o = c.first_live.result in
     let k = c.first_unequal.result in
     let h : First o (live S) = subst (λ E. First o (stands_in E)) c.sides-sides.ensures c.first_live.ensures in
-    let d : FirstUnequal k S.equations = subst (FirstUnequal k) c.sides-sides.ensures c.first_unequal.ensures in
+    let d : FirstUnequal k S.equations = subst (FirstUnequal k) c.sides-sides.ensures c.first_unequal.ensures.value in
     record { reason = by_sides S c.args.room fits o (lives s o h) None c.in_default.is (differing_is S.equations k d ∙ c.in-None.is); untouched = tt; suffices = λ _. fits }

@@ -1,7 +1,6 @@
 use Rattle.std.proofs.Common.{ap}
 use Rattle.std.specs.Option.{option_map}
 use Rattle.systems.specs.Refusals.{load_number}
-use Rattle.stand.specs.Holding.{standing_of}
 use Rattle.checker.proofs.Runs.{load_more, some_load_more}
 use Rattle.checker.proofs.store.System.load.Goals as goal
 
@@ -9,7 +8,7 @@ pub invariant_of-self : goal.invariant_of-self
 invariant_of-self c =
     let old = c.args.self.now in
     record {
-      run = some_load_more c.args.left.now c.args.right.now (standing_of old.stand) (standing_of c.load.new.self) old.run c.load.ensures.stands;
+      run = some_load_more c.args.left.now c.args.right.now old.stand c.load.new.self old.run c.load.ensures.stands;
     }
 
 pub returns : goal.returns
@@ -19,5 +18,5 @@ returns c =
       refusal = c.load.ensures.refusal;
       number = ap (option_map load_number) c.load.ensures.refusal;
       stands = c.load.ensures.stands;
-      run = λ loads run. load_more loads c.args.left.now c.args.right.now (standing_of old.stand) (standing_of c.load.new.self) run c.load.ensures.stands;
+      run = λ loads run. load_more loads c.args.left.now c.args.right.now old.stand c.load.new.self run c.load.ensures.stands;
     }

@@ -1,11 +1,10 @@
-use Rattle.std.proofs.Common.{vec_items, arith}
+use Rattle.std.proofs.Common.{ap, arith}
+use Rattle.systems.specs.Sides.{places}
 use Rattle.sides.proofs.Flat.{places_length}
 use Rattle.sides.proofs.store.Sides.len.Goals as goal
 
 pub overflow_sub-result : goal.overflow_sub-result
-overflow_sub-result c = let s = c.args.self.now in omega (arith, places_length (vec_items s.marks) s.whole, s.marks.ok.0, s.counted)
+overflow_sub-result c = omega (arith, places_length c.self.inside.marks c.self.invariant.whole)
 
-pub returns : goal.returns
-returns c =
-    let s = c.args.self.now in
-    record { value = omega (arith, places_length (vec_items s.marks) s.whole, s.marks.ok.0, s.counted); bound = omega (arith, s.short) }
+pub returns-clause-value : goal.returns-clause-value
+returns-clause-value c = omega (arith, places_length c.self.inside.marks c.self.invariant.whole, ap places c.self.view_is)
