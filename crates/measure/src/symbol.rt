@@ -1,8 +1,10 @@
 // The letters a to z and the variables A to Z, by their numbers from 0.
 
-ghost use Rattle.std.specs.Prelude.{◌≡◌, ◌<◌, ◌≤◌, MatchOption};
+ghost use Rattle.std.specs.Prelude.{◌≡◌, ◌<◌, ◌≤◌, map, MatchOption};
+ghost use Rattle.std.specs.List.{range_with_len};
 
 use std::alloc::AllocError;
+use std::array;
 use std::marker::PhantomData;
 
 // How many symbols an alphabet has.
@@ -48,6 +50,22 @@ impl<A> Symbol<A> {
         } else {
             None
         }
+    }
+
+    // All of them, in order.
+    pub fn all() -> [Symbol<A>; SYMBOLS]
+        ensures { map (λ s. s.number) result ≡ range_with_len 0 26 }
+    {
+        array::from_fn(
+            |number| -> Symbol<A>
+                requires { number < 26 }
+            {
+                Symbol {
+                    number: number as u8,
+                    alphabet: PhantomData,
+                }
+            },
+        )
     }
 
     // Its number.
