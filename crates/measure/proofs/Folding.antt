@@ -1,17 +1,14 @@
 -- What the two laws give of rows of joins. Assumes nothing.
-use Rattle.std.proofs.Common.{◌≡◌, ℕ, zero, suc, ◌+◌, ◌/◌, ◌%◌, ◌<◌, ◌≤◌, [], ◌∷◌, ◌++◌, length, get_or, take, sym, refl, ap, ◌∙◌, arith}
-use Rattle.std.proofs.lemmas.List.{take_more}
+use Rattle.std.proofs.Common.{◌≡◌, ℕ, zero, suc, ◌+◌, ◌/◌, ◌%◌, ◌<◌, ◌≤◌, [], ◌∷◌, sym, refl, ap, ◌∙◌, arith}
+use Rattle.std.specs.List.{fold}
 use Rattle.model.specs.Spelling.{Word}
 use Rattle.systems.specs.Values.{Associative, Neutral, word_value, times}
 
 module _ {V : Type 0} {empty : V} {join : V → V → V} (assoc : Associative join) (neutral : Neutral empty join) where
-  -- a word and one letter more
-  value_push : (letter : ℕ → V) (w : Word) (a : ℕ) → join (word_value letter empty join w) (letter a) ≡ word_value letter empty join (w ++ (a ∷ []))
-  value_push letter [] a = neutral.left (letter a) ∙ sym (neutral.right (letter a))
-  value_push letter (b ∷ w) a = assoc.associates (letter b) (word_value letter empty join w) (letter a) ∙ ap (join (letter b)) (value_push letter w a)
-
-  pub value_more : (letter : ℕ → V) (w : Word) (i : ℕ) → i < length w → join (word_value letter empty join (take i w)) (letter (get_or w i 0)) ≡ word_value letter empty join (take (i + 1) w)
-  value_more letter w i lt = value_push letter (take i w) (get_or w i 0) ∙ ap (word_value letter empty join) (sym (take_more w i 0 lt))
+  -- a word whose letters are joined one after another
+  pub value_fold : (letter : ℕ → V) (v : V) (w : Word) → fold (λ done a. join done (letter a)) v w ≡ join v (word_value letter empty join w)
+  value_fold letter v [] = sym (neutral.right v)
+  value_fold letter v (a ∷ w) = value_fold letter (join v (letter a)) w ∙ assoc.associates v (letter a) (word_value letter empty join w)
 
   -- twice as many joins of a value are as many of its square
   times_square : (n : ℕ) (v : V) → times empty join (n + n) v ≡ times empty join n (join v v)
