@@ -1,12 +1,11 @@
 -- Tables that are filled rule by rule. Assumes nothing.
-use Rattle.std.proofs.Common.{◌≡◌, ℕ, zero, suc, ◌+◌, ◌-◌, ◌<◌, ◌≤◌, Bool, true, false, ◌&&◌, cond, leb, ◌≢◌, List, [], ◌∷◌, ◌++◌, Option, Some, None, Result, Ok, Err, reverse, length, get_or, take, drop, set, sym, refl, ap, ◌∙◌, subst, ⊎_elim, append-nil, append_assoc, add-one, zero-add, arith, length-take, get_or-set_other, get_or-set_same, below_more}
+use Rattle.std.proofs.Common.{◌≡◌, ℕ, zero, suc, ◌+◌, ◌-◌, ◌<◌, ◌≤◌, Bool, true, false, ◌&&◌, cond, leb, ◌≢◌, List, [], ◌∷◌, ◌++◌, Some, None, reverse, length, get_or, take, drop, set, sym, refl, ap, ◌∙◌, subst, ⊎_elim, append-nil, append_assoc, add-one, zero-add, arith, length-take, get_or-set_other, get_or-set_same, below_more}
 use Rattle.std.specs.List.{AllByRecursion, enumerate_from, list_all}
-use Rattle.std.specs.Result.{is_ok, result_err}
 use Rattle.std.proofs.Math.Bool.{and-true, and_comm, and_assoc}
 use Rattle.std.proofs.lemmas.List.FromFn.{length-enumerate_from, get_or-enumerate_from}
 use Rattle.std.proofs.lemmas.List.Recursion.{and_at}
 use Rattle.std.proofs.lemmas.List.{take_more, length-reverse, reverse-append, drop-set-lt, drop-drop}
-use Rattle.std.proofs.lemmas.Bool.{and_parts, and_from, cases_lt, le-leb, lt-leb, leb-true}
+use Rattle.std.proofs.lemmas.Bool.{and_from, cases_lt, le-leb, leb-true}
 use Rattle.model.specs.declared.Rule.{Rule}
 use Rattle.model.specs.declared.Rule.TheVariants.{Pair, Block}
 use Rattle.model.specs.Spelling.{Word, copies, known, expand, spell, spell_word}
@@ -15,7 +14,6 @@ use Rattle.model.proofs.Spelling.{spell_older, spell_newest}
 use Rattle.model.proofs.Fitting.{newest_fits, pair_lower, block_lower, newest_reverse}
 use Rattle.systems.specs.Values.{Associative, Neutral, word_value, times, rule_value}
 use Rattle.systems.proofs.Values.{values_of}
-use Rattle.measure.specs.declared.values.FillRefusal.{FillRefusal}
 use Rattle.measure.specs.declared.values.FillRefusal.TheVariants.{SmallTable, OutOfTurn}
 use Rattle.measure.specs.Tables.{table_value, Filled, in_turn, fillable, fill_refusal}
 
@@ -79,31 +77,14 @@ fillable_room stored size le =
     let room : known (reverse stored) ≤ size = omega (arith, length-reverse stored) in
     ap (λ b. b && in_turn (reverse stored)) (sym (le-leb (known (reverse stored)) size room))
 
-pub refusal_short : (stored : List Rule) (size : ℕ) → size < 26 + length stored → Some SmallTable ≡ fill_refusal (reverse stored) size
-refusal_short stored size lt =
-    let short : size < known (reverse stored) = omega (arith, length-reverse stored) in
-    ap (λ b. cond b (cond (in_turn (reverse stored)) None (Some OutOfTurn)) (Some SmallTable)) (sym (lt-leb (known (reverse stored)) size short))
+no_refusal : (room turn : Bool) → None ≡ cond room (cond turn None (Some OutOfTurn)) (Some SmallTable) → (room ≡ true) × (turn ≡ true)
+no_refusal true true e = (refl, refl)
+no_refusal true false e = cc
+no_refusal false turn e = cc
 
-pub refusal_room : (stored : List Rule) (size : ℕ) (turn : Bool) → 26 + length stored ≤ size → turn ≡ in_turn (reverse stored) → cond turn None (Some OutOfTurn) ≡ fill_refusal (reverse stored) size
-refusal_room stored size turn le is =
-    let room : known (reverse stored) ≤ size = omega (arith, length-reverse stored) in
-    ap (λ b. cond b None (Some OutOfTurn)) is ∙ ap (λ b. cond b (cond (in_turn (reverse stored)) None (Some OutOfTurn)) (Some SmallTable)) (sym (le-leb (known (reverse stored)) size room))
-
-by_tests : (room turn : Bool) (r : Result (Unit {0}) FillRefusal) → result_err r ≡ cond room (cond turn None (Some OutOfTurn)) (Some SmallTable) → is_ok r ≡ (room && turn)
-by_tests true true (Ok x) e = refl
-by_tests true true (Err w) e = cc
-by_tests true false (Ok x) e = cc
-by_tests true false (Err w) e = refl
-by_tests false turn (Ok x) e = cc
-by_tests false turn (Err w) e = refl
-
--- the refusal says whether
-pub fillable_by_refusal : (rules : List Rule) (size : ℕ) (r : Result (Unit {0}) FillRefusal) → result_err r ≡ fill_refusal rules size → is_ok r ≡ fillable rules size
-fillable_by_refusal rules size r e = by_tests (leb (known rules) size) (in_turn rules) r e
-
-pub refused_parts : (stored : List Rule) (size : ℕ) → None ≡ fill_refusal (reverse stored) size → (26 + length stored ≤ size) × (in_turn (reverse stored) ≡ true)
-refused_parts stored size h =
-    let p = and_parts (leb (known (reverse stored)) size) (in_turn (reverse stored)) (sym (fillable_by_refusal (reverse stored) size (Ok tt) h)) in
+pub taken_parts : (stored : List Rule) (size : ℕ) → None ≡ fill_refusal (reverse stored) size → (26 + length stored ≤ size) × (in_turn (reverse stored) ≡ true)
+taken_parts stored size h =
+    let p = no_refusal (leb (known (reverse stored)) size) (in_turn (reverse stored)) h in
     (omega (arith, length-reverse stored, leb-true (known (reverse stored)) size p.0), p.1)
 
 -- the word that a rule stands for
@@ -127,10 +108,6 @@ module _ {V : Type 0} (letter : ℕ → V) {empty : V} {join : V → V → V} (a
   value_for : (f : ℕ → V) (rule : Rule) → word_value f empty join (word_for rule) ≡ rule_value f empty join rule
   value_for f (Pair a b) = ap (join (f a)) (neutral.right (f b))
   value_for f (Block a n) = value_copies f a n
-
-  -- a table with the values of a to z is filled where there are no rules
-  pub letters_filled : (t : List V) → ((a : ℕ) → a < 26 → get_or t a empty ≡ letter a) → Filled letter empty join [] t
-  letters_filled t is a lt = is a lt ∙ sym ((values_of letter empty join assoc neutral).of_a_to_z [] a lt)
 
   -- the values in a filled table are those of what known letters spell
   table_word : (rules : List Rule) (t : List V) (w : Word) → Filled letter empty join rules t → AllByRecursion (λ a. a < known rules) w → table_value empty join t w ≡ word_value (λ a. word_value letter empty join (spell rules a)) empty join w

@@ -1,5 +1,5 @@
 -- What the two laws give of rows of joins. Assumes nothing.
-use Rattle.std.proofs.Common.{◌≡◌, ℕ, zero, suc, ◌+◌, ◌/◌, ◌%◌, ◌<◌, ◌≤◌, [], ◌∷◌, sym, refl, ap, ◌∙◌, arith}
+use Rattle.std.proofs.Common.{◌≡◌, ℕ, zero, suc, ◌+◌, ◌/◌, ◌%◌, ◌<◌, [], ◌∷◌, sym, refl, ap, ◌∙◌, arith}
 use Rattle.std.specs.List.{fold}
 use Rattle.model.specs.Spelling.{Word}
 use Rattle.systems.specs.Values.{Associative, Neutral, word_value, times}
@@ -17,10 +17,7 @@ module _ {V : Type 0} {empty : V} {join : V → V → V} (assoc : Associative jo
       let e : suc n + suc n ≡ suc (suc (n + n)) = omega arith in
       ap (λ k. times empty join k v) e ∙ ap (λ x. join v (join v x)) (times_square n v) ∙ sym (assoc.associates v v (times empty join n (join v v)))
 
-  -- repeated squaring: its start, a turn at an even and at an odd count, and its end
-  pub power_none : (done v : V) (n : ℕ) → done ≡ empty → join done (times empty join n v) ≡ times empty join n v
-  power_none done v n e = ap (λ x. join x (times empty join n v)) e ∙ neutral.left (times empty join n v)
-
+  -- repeated squaring: a turn at an even and at an odd count
   pub power_even : (done v same square all : V) (n : ℕ) → same ≡ done → square ≡ join v v → n % 2 < 1 → join done (times empty join n v) ≡ all → join same (times empty join (n / 2) square) ≡ all
   power_even done v same square all n kept sq even e =
       let twice : n ≡ n / 2 + n / 2 = omega arith in
@@ -31,8 +28,3 @@ module _ {V : Type 0} {empty : V} {join : V → V → V} (assoc : Associative jo
       let twice : n ≡ suc (n / 2 + n / 2) = omega arith in
       ap (λ x. join x (times empty join (n / 2) square)) one ∙ ap (λ x. join (join done v) (times empty join (n / 2) x)) sq ∙ assoc.associates done v _
       ∙ ap (join done) (sym (ap (λ k. times empty join k v) twice ∙ ap (join v) (times_square (n / 2) v))) ∙ e
-
-  pub power_all : (done v all : V) (n : ℕ) → n ≤ 0 → join done (times empty join n v) ≡ all → done ≡ all
-  power_all done v all n le e =
-      let z : 0 ≡ n = omega arith in
-      sym (neutral.right done) ∙ ap (λ k. join done (times empty join k v)) z ∙ e

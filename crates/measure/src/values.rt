@@ -21,14 +21,33 @@ pub enum FillRefusal {
     OutOfTurn,
 }
 
-// The value of a letter in a table, or the empty value past the table.
-fn value_at<K: Measure>(kind: &K, table: &[K::Value], letter: u16) -> K::Value
-    ensures { result ≡ slice_index_or table.now letter (K.nothing kind.now) }
-{
-    table
-        .get(usize::from(letter))
-        .copied()
-        .unwrap_or_else(|| kind.empty())
+// A kind, and a table of values of letters under it.
+#[derive(Drop)]
+struct Values<'a, K: Measure> {
+    kind: &'a K,
+    table: &'a [K::Value],
+}
+
+impl<K: Measure> Values<'_, K> {
+    // The value of a letter, or the empty value past the table.
+    fn of_letter(&self, letter: u16) -> K::Value
+        ensures { result ≡ slice_index_or self.now.table.now letter (K.nothing self.now.kind.now) }
+    {
+        self.table
+            .get(usize::from(letter))
+            .copied()
+            .unwrap_or_else(|| self.kind.empty())
+    }
+
+    // The value of what a rule makes.
+    fn of_rule(&self, rule: Rule) -> K::Value
+        ensures { let k = self.now.kind.now in result ≡ rule_value (λ a. get_or self.now.table.now a (K.nothing k)) (K.nothing k) (K.joined k) rule }
+    {
+        match rule {
+            Rule::Pair(a, b) => self.kind.join(self.of_letter(a), self.of_letter(b)),
+            Rule::Block(a, count) => power(self.kind, self.of_letter(a), count),
+        }
+    }
 }
 
 // The value of a word, where the table has the values of its letters. Over a filled table it is the value of what the word spells.
@@ -36,8 +55,9 @@ pub fn word_value<K: Measure>(kind: &K, table: &[K::Value], word: &[u16]) -> K::
     ensures by_table { result ≡ table_value (K.nothing kind.now) (K.joined kind.now) table.now word.now }
     ensures by_spelling { let k = kind.now in (rules : List Rule) → Filled (K.single k) (K.nothing k) (K.joined k) rules table.now → AllByRecursion (λ a. a < known rules) word.now → result ≡ word_value (K.single k) (K.nothing k) (K.joined k) (spell_word rules word.now) }
 {
+    let values = Values { kind, table };
     word.iter().fold(kind.empty(), |value, letter| {
-        kind.join(value, value_at(kind, table, *letter))
+        kind.join(value, values.of_letter(*letter))
     })
 }
 
@@ -56,16 +76,6 @@ pub fn power<K: Measure>(kind: &K, value: K::Value, count: u32) -> K::Value
         left /= 2;
     }
     done
-}
-
-// The value of what a rule makes, where the table has the values of its letters.
-fn rule_value<K: Measure>(kind: &K, table: &[K::Value], rule: Rule) -> K::Value
-    ensures { let k = kind.now in result ≡ rule_value (λ a. get_or table.now a (K.nothing k)) (K.nothing k) (K.joined k) rule }
-{
-    match rule {
-        Rule::Pair(a, b) => kind.join(value_at(kind, table, a), value_at(kind, table, b)),
-        Rule::Block(a, count) => power(kind, value_at(kind, table, a), count),
-    }
 }
 
 // Whether the letters of the rule are below the bound.
@@ -129,7 +139,7 @@ pub fn fill_values<K: Measure>(
     check_fill(rules, table.len())?;
     fill_letters(kind, table);
     for (i, rule) in rules.iter().enumerate() {
-        table[LETTERS + i] = rule_value(kind, table, *rule);
+        table[LETTERS + i] = Values { kind, table }.of_rule(*rule);
     }
     Ok(())
 }
