@@ -7,7 +7,7 @@ ghost use Rattle.combined.specs.Theorems.{PassAndFailChangePlaces};
 
 use measure::Measure;
 use measure::letter::Letter;
-use measure::sets::{SETS, SetRefusal};
+use measure::sets::{SetRefusal, check_set, has};
 use measure::variable::Variable;
 
 // A kind, and the set of variables for which pass and fail change places.
@@ -22,11 +22,8 @@ impl<K: Drop> Opposite<K> {
     pub fn new(kind: K, turned: u32) -> Result<Opposite<K>, SetRefusal>
         ensures { MatchResult result (λ k. (k.kind ≡ kind) × (k.turned ≡ turned) × (turned < 2 ^ 26)) (λ e. (set_number e ≡ 83) × (2 ^ 26 ≤ turned)) }
     {
-        if turned < SETS {
-            Ok(Opposite { kind, turned })
-        } else {
-            Err(SetRefusal::Beyond26Bits)
-        }
+        check_set(turned)?;
+        Ok(Opposite { kind, turned })
     }
 }
 
@@ -59,7 +56,7 @@ impl<K: Measure> Measure for Opposite<K> {
 
     fn passes(&self, variable: Variable, value: K::Value) -> bool {
         let passed = self.kind.passes(variable, value);
-        if (self.turned >> variable.number()) % 2 == 1 {
+        if has(self.turned, variable.number()) {
             !passed
         } else {
             passed

@@ -5,7 +5,7 @@
 mod parity;
 
 use crate::parity::EvenUses;
-use anyhow::anyhow;
+use anyhow::{Context, anyhow};
 use combined::both::Both;
 use length::kind::Length;
 use measure::Measure;
@@ -25,24 +25,19 @@ fn answer<K: Measure>(heap: Global, kind: &K, word: &[u16]) -> anyhow::Result<bo
         Rule::Block(26, 1_000_000),
         Rule::Pair(2, 26),
     ];
-    let mut table = Vec::new(heap);
-    for _ in 0..32 {
-        table.push(kind.empty())?;
-    }
-    if !fill_values(kind, &rules, table.as_mut_slice()) {
-        return Err(anyhow!("the rules are not made in turn"));
-    }
-    let Some(variable) = Variable::new(0) else {
-        return Err(anyhow!("no variable"));
-    };
+    let mut table = vec![in heap; kind.empty(); 32]?;
+    fill_values(kind, &rules, table.as_mut_slice()).map_err(|_| anyhow!(
+        "the rules are not made in turn"
+    ))?;
+    let variable = Variable::new(0).context("no variable")?;
     Ok(kind.passes(variable, word_value(kind, table.as_slice(), word)))
 }
 
 fn run(rt: &HostRuntime) -> anyhow::Result<()> {
     let vowels = EvenUses::new(VOWELS);
-    let Ok(short) = Length::new([0; VARIABLES], [100; VARIABLES]) else {
-        return Err(anyhow!("the limits are out of order"));
-    };
+    let short = Length::new([0; VARIABLES], [100; VARIABLES]).map_err(|_| anyhow!(
+        "the limits are out of order"
+    ))?;
     let both = Both {
         first: vowels,
         second: short,

@@ -7,6 +7,7 @@ ghost use Rattle.example_kind.specs.declared.parity.Parity.TheVariants.{Even, Od
 
 use measure::Measure;
 use measure::letter::Letter;
+use measure::sets::has;
 use measure::variable::Variable;
 
 // How often the letters of the set are used.
@@ -47,7 +48,7 @@ impl Measure for EvenUses {
     ghost neutral = { λ _. both_neutral };
 
     fn letter(&self, letter: Letter) -> Parity {
-        if (self.counted >> letter.number()) % 2 == 1 {
+        if has(self.counted, letter.number()) {
             Parity::Odd
         } else {
             Parity::Even
@@ -59,17 +60,10 @@ impl Measure for EvenUses {
     }
 
     fn join(&self, a: Parity, b: Parity) -> Parity {
-        match (a, b) {
-            (Parity::Even, b) => b,
-            (Parity::Odd, Parity::Even) => Parity::Odd,
-            (Parity::Odd, Parity::Odd) => Parity::Even,
-        }
+        if a == b { Parity::Even } else { Parity::Odd }
     }
 
     fn passes(&self, _variable: Variable, value: Parity) -> bool {
-        match value {
-            Parity::Even => true,
-            Parity::Odd => false,
-        }
+        value == Parity::Even
     }
 }

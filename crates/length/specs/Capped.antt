@@ -3,6 +3,7 @@ use Rattle.std.specs.Prelude.{◌≡◌, ℕ, ◌+◌, ◌≤◌, min}
 use mathlib.Core.HLevel.{is_prop→PathP}
 use Rattle.std.proofs.Math.Bridge.{le_prop}
 use Rattle.std.proofs.Common.{arith}
+use Rattle.std.proofs.Math.Nat.{min-le_right}
 use Rattle.systems.specs.Values.{Associative, Neutral}
 use Rattle.length.specs.declared.value.Capped.{Capped}
 
@@ -11,12 +12,13 @@ pub capped-≡ : (a b : Capped) → a.count ≡ b.count → a ≡ b
 capped-≡ a b e = λ i. record { count = e i; ok = is_prop→PathP (λ j. e j ≤ 1000000) (λ j. le_prop) a.ok b.ok i }
 
 abbrev pub capped : ℕ → Capped
-capped n = record { count = min n 1000000; ok = omega arith }
+capped n = record { count = min n 1000000; ok = min-le_right n 1000000 }
 
 -- so many letters and then so many
 abbrev pub longer : Capped → Capped → Capped
 longer a b = capped (a.count + b.count)
 
+-- the two laws stay here, where an impl can cite them: it cites nothing of its own crate's proofs/
 pub longer_associative : Associative longer
 longer_associative = record { associates = λ x y z. capped-≡ _ _ (omega arith) }
 

@@ -17,7 +17,7 @@ const CAP: u32 = 1_000_000;
 #[derive(Clone, Copy, PartialEq, Eq, Debug)]
 pub enum LengthRefusal {
     // for some variable, least is over most, or most over 1,000,000
-    OutOfOrder,
+    OutOfOrder = 82,
 }
 
 impl LengthRefusal {
@@ -25,13 +25,11 @@ impl LengthRefusal {
     pub fn number(self) -> u8
         ensures { result ≡ length_number self }
     {
-        match self {
-            LengthRefusal::OutOfOrder => 82,
-        }
+        self as u8
     }
 }
 
-// The least and the most letters that a word may have, for each variable.
+// The least and the most letters that a word may have, for each variable. Two arrays, since callers hand them over so and the contract of `new` names both.
 #[derive(Clone, Copy)]
 pub struct Length {
     least: [u32; VARIABLES],
@@ -43,10 +41,9 @@ impl Length {
     pub fn new(least: [u32; VARIABLES], most: [u32; VARIABLES]) -> Result<Length, LengthRefusal>
         ensures { MatchResult result (λ k. (k.least ≡ least) × (k.most ≡ most) × ((v : ℕ) → v < 26 → InOrder (slice_index least v) (slice_index most v))) (λ e. (length_number e ≡ 82) × ((v : ℕ) × (v < 26) × IsOutOfOrder (slice_index least v) (slice_index most v))) }
     {
-        for v in 0..VARIABLES {
-            if least[v] > most[v] || most[v] > CAP {
-                return Err(LengthRefusal::OutOfOrder);
-            }
+        let mut limits = least.iter().zip(&most);
+        if limits.any(|(least, most)| least > most || *most > CAP) {
+            return Err(LengthRefusal::OutOfOrder);
         }
         Ok(Length { least, most })
     }
@@ -76,9 +73,8 @@ impl Measure for Length {
     }
 
     fn join(&self, a: Capped, b: Capped) -> Capped {
-        let sum = a.count + b.count;
         Capped {
-            count: sum.min(CAP),
+            count: (a.count + b.count).min(CAP),
         }
     }
 

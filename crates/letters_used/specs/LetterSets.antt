@@ -1,10 +1,11 @@
 -- Sets of letters as bits, and the laws of their union. Assumes nothing.
-use Rattle.std.specs.Prelude.{◌≡◌, ℕ, zero, suc, ◌/◌, ◌%◌, ◌^◌, ◌<◌, ◌≤◌, min, max, Bool, ◌&&◌, ◌==◌, bit_and, bit_or, refl}
-use Rattle.std.proofs.Common.{ap, arith}
+use Rattle.std.specs.Prelude.{◌≡◌, ℕ, ◌^◌, ◌<◌, min, Bool, ◌&&◌, ◌==◌, bit_and, bit_or}
+use Rattle.std.proofs.Common.{arith}
 use mathlib.Core.HLevel.{is_prop→PathP}
 use Rattle.std.proofs.Math.Bridge.{le_prop}
-use Rattle.std.specs.Int.Bits.{or_step, or_zero_l, or_zero_r}
+use Rattle.std.specs.Int.Bits.{or_zero_l, or_zero_r}
 use Rattle.std.proofs.lemmas.Nat.{or_lt}
+use Rattle.std.proofs.lemmas.Nat.Bits.{bit_at_or, same_from_bits}
 use Rattle.std.proofs.Math.Pow.{pow-lt}
 use Rattle.systems.specs.Values.{Associative, Neutral}
 use Rattle.letters_used.specs.declared.value.LetterSet.{LetterSet}
@@ -31,29 +32,17 @@ covers big small = bit_and big small == small
 abbrev pub between : ℕ → ℕ → ℕ → Bool
 between required allowed x = covers x required && covers allowed x
 
-or_half : (a b : ℕ) → bit_or a b / 2 ≡ bit_or (a / 2) (b / 2)
-or_half a b = let e = or_step a b in omega arith
-
-pub or_digit : (a b : ℕ) → bit_or a b % 2 ≡ max (a % 2) (b % 2)
-or_digit a b = let e = or_step a b in omega arith
-
--- for a up to n
-or_associates : (n a b c : ℕ) → a ≤ n → bit_or (bit_or a b) c ≡ bit_or a (bit_or b c)
-or_associates n zero b c h = refl
-or_associates zero (suc a) b c h = absurd (omega arith)
-or_associates (suc n) (suc a) b c h =
-    let x = suc a in
-    let halves = or_associates n (x / 2) (b / 2) (c / 2) (omega arith) in
-    let l = or_step (bit_or x b) c in
-    let r = or_step x (bit_or b c) in
-    let lh : bit_or (bit_or x b / 2) (c / 2) ≡ bit_or (bit_or (x / 2) (b / 2)) (c / 2) = ap (λ y. bit_or y (c / 2)) (or_half x b) in
-    let rh : bit_or (x / 2) (bit_or b c / 2) ≡ bit_or (x / 2) (bit_or (b / 2) (c / 2)) = ap (bit_or (x / 2)) (or_half b c) in
-    let ld = or_digit x b in
-    let rd = or_digit b c in
-    omega arith
+or_associates : (a b c : ℕ) → bit_or (bit_or a b) c ≡ bit_or a (bit_or b c)
+or_associates a b c =
+    same_from_bits (bit_or (bit_or a b) c) (bit_or a (bit_or b c)) (λ i.
+    let left = bit_at_or (bit_or a b) c i in
+    let right = bit_at_or a (bit_or b c) i in
+    let first = bit_at_or a b i in
+    let last = bit_at_or b c i in
+    omega arith)
 
 pub union_associative : Associative union
-union_associative = record { associates = λ x y z. set-≡ _ _ (or_associates x.bits x.bits y.bits z.bits (omega arith)) }
+union_associative = record { associates = λ x y z. set-≡ _ _ (or_associates x.bits y.bits z.bits) }
 
 pub union_neutral : Neutral none union
 union_neutral = record { left = λ x. set-≡ _ _ (or_zero_l x.bits); right = λ x. set-≡ _ _ (or_zero_r x.bits) }

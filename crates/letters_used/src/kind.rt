@@ -8,10 +8,11 @@ ghost use Rattle.letters_used.specs.Theorems.{PassingIsByLetters, ValueIsLetters
 use crate::value::LetterSet;
 use measure::Measure;
 use measure::letter::Letter;
-use measure::sets::{SETS, SetRefusal};
+use measure::sets::{SetRefusal, check_set};
 use measure::variable::{VARIABLES, Variable};
 
-// The letters that a word must have and the letters that it may have, as sets, for each variable.
+// The letters that a word must have and the letters that it may have, as sets, for each variable. Two arrays, since callers hand them over so and the
+// contract of `new` names both.
 #[derive(Clone, Copy)]
 pub struct LettersUsed {
     required: [u32; VARIABLES],
@@ -26,10 +27,9 @@ impl LettersUsed {
     ) -> Result<LettersUsed, SetRefusal>
         ensures { MatchResult result (λ k. (k.required ≡ required) × (k.allowed ≡ allowed) × ((v : ℕ) → v < 26 → (slice_index required v < 2 ^ 26) × (slice_index allowed v < 2 ^ 26))) (λ e. (set_number e ≡ 83) × ((v : ℕ) × (v < 26) × ((2 ^ 26 ≤ slice_index required v) ⊎ (2 ^ 26 ≤ slice_index allowed v)))) }
     {
-        for v in 0..VARIABLES {
-            if required[v] >= SETS || allowed[v] >= SETS {
-                return Err(SetRefusal::Beyond26Bits);
-            }
+        for (must, may) in required.iter().zip(&allowed) {
+            check_set(*must)?;
+            check_set(*may)?;
         }
         Ok(LettersUsed { required, allowed })
     }

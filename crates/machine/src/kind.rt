@@ -9,7 +9,9 @@ ghost use Rattle.machine.specs.Theorems.{ValueIsReading};
 use crate::value::StateMap;
 use measure::Measure;
 use measure::letter::{LETTERS, Letter};
+use measure::sets::has;
 use measure::variable::{VARIABLES, Variable};
+use std::array;
 
 // How many states there are; the first is the start.
 const STATES: usize = 8;
@@ -21,7 +23,7 @@ const MOVES: usize = STATES * LETTERS;
 #[derive(Clone, Copy, PartialEq, Eq, Debug)]
 pub enum MachineRefusal {
     // a next state over 7
-    NoState,
+    NoState = 81,
 }
 
 impl MachineRefusal {
@@ -29,9 +31,7 @@ impl MachineRefusal {
     pub fn number(self) -> u8
         ensures { result ≡ machine_number self }
     {
-        match self {
-            MachineRefusal::NoState => 81,
-        }
+        self as u8
     }
 }
 
@@ -48,10 +48,8 @@ impl Machine {
     pub fn new(next: [u8; MOVES], accepting: [u8; VARIABLES]) -> Result<Machine, MachineRefusal>
         ensures { MatchResult result (λ k. (k.next ≡ next) × (k.accepting ≡ accepting) × ((i : ℕ) → i < 208 → slice_index next i < 8)) (λ e. (machine_number e ≡ 81) × ((i : ℕ) × (i < 208) × (8 ≤ slice_index next i))) }
     {
-        for i in 0..MOVES {
-            if next[i] >= STATES as u8 {
-                return Err(MachineRefusal::NoState);
-            }
+        if next.iter().any(|state| *state >= STATES as u8) {
+            return Err(MachineRefusal::NoState);
         }
         Ok(Machine { next, accepting })
     }
@@ -73,12 +71,9 @@ impl Measure for Machine {
     ghost neutral = { λ _. then_neutral };
 
     fn letter(&self, letter: Letter) -> StateMap {
-        let a = letter.number() as usize;
-        let mut to = [0u8; STATES];
-        for s in 0..STATES {
-            to[s] = self.next[LETTERS * s + a];
+        StateMap {
+            to: array::from_fn(|s| self.next[LETTERS * s + usize::from(letter.number())]),
         }
-        StateMap { to }
     }
 
     fn empty(&self) -> StateMap {
@@ -88,16 +83,14 @@ impl Measure for Machine {
     }
 
     fn join(&self, a: StateMap, b: StateMap) -> StateMap {
-        let mut to = [0u8; STATES];
-        for s in 0..STATES {
-            to[s] = b.to[a.to[s] as usize];
+        StateMap {
+            to: array::from_fn(|s| b.to[usize::from(a.to[s])]),
         }
-        StateMap { to }
     }
 
     fn passes(&self, variable: Variable, value: StateMap) -> bool {
-        let accepting = self.accepting[variable.number() as usize];
-        (accepting >> value.to[0]) % 2 == 1
+        let accepting = self.accepting[usize::from(variable.number())];
+        has(u32::from(accepting), value.to[0])
     }
 }
 

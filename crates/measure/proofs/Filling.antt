@@ -1,8 +1,11 @@
 -- Tables that are filled rule by rule. Assumes nothing.
-use Rattle.std.proofs.Common.{◌≡◌, ℕ, zero, suc, ◌+◌, ◌-◌, ◌<◌, ◌≤◌, true, false, ◌&&◌, leb, ◌≢◌, List, [], ◌∷◌, ◌++◌, reverse, length, get_or, take, drop, set, sym, refl, ap, ◌∙◌, subst, ⊎_elim, append-nil, arith, take-append-drop, length-take, get_or-set_other, get_or-set_same, below_more}
-use Rattle.std.specs.List.{AllByRecursion}
+use Rattle.std.proofs.Common.{◌≡◌, ℕ, zero, suc, ◌+◌, ◌-◌, ◌<◌, ◌≤◌, Bool, true, false, ◌&&◌, cond, leb, ◌≢◌, List, [], ◌∷◌, ◌++◌, Some, None, reverse, length, get_or, take, drop, set, sym, refl, ap, ◌∙◌, subst, ⊎_elim, append-nil, append_assoc, add-one, zero-add, arith, length-take, get_or-set_other, get_or-set_same, below_more}
+use Rattle.std.specs.List.{AllByRecursion, enumerate_from, list_all}
+use Rattle.std.proofs.Math.Bool.{and-true, and_comm, and_assoc}
+use Rattle.std.proofs.lemmas.List.FromFn.{length-enumerate_from, get_or-enumerate_from}
+use Rattle.std.proofs.lemmas.List.Recursion.{and_at}
 use Rattle.std.proofs.lemmas.List.{take_more, length-reverse, reverse-append, drop-set-lt, drop-drop}
-use Rattle.std.proofs.lemmas.Bool.{and_parts, and_from, cases_lt, le-leb, lt-leb, leb-true}
+use Rattle.std.proofs.lemmas.Bool.{and_from, cases_lt, le-leb, leb-true}
 use Rattle.model.specs.declared.Rule.{Rule}
 use Rattle.model.specs.declared.Rule.TheVariants.{Pair, Block}
 use Rattle.model.specs.Spelling.{Word, copies, known, expand, spell, spell_word}
@@ -11,7 +14,8 @@ use Rattle.model.proofs.Spelling.{spell_older, spell_newest}
 use Rattle.model.proofs.Fitting.{newest_fits, pair_lower, block_lower, newest_reverse}
 use Rattle.systems.specs.Values.{Associative, Neutral, word_value, times, rule_value}
 use Rattle.systems.proofs.Values.{values_of}
-use Rattle.measure.specs.Tables.{table_value, Filled, in_turn, fillable}
+use Rattle.measure.specs.declared.values.FillRefusal.TheVariants.{SmallTable, OutOfTurn}
+use Rattle.measure.specs.Tables.{table_value, Filled, in_turn, fillable, fill_refusal}
 
 -- lists that are the same from a place on are the same from any later place on
 pub same_later : {X : Type 0} (m n : ℕ) (xs ys : List X) → m ≤ n → drop m xs ≡ drop m ys → drop n xs ≡ drop n ys
@@ -44,38 +48,43 @@ stored_more stored i d lt = ap reverse (take_more stored i d lt) ∙ newest_reve
 pub stored_known : (stored : List Rule) (i : ℕ) → i ≤ length stored → known (reverse (take i stored)) ≡ 26 + i
 stored_known stored i le = omega (arith, length-reverse (take i stored), length-take i stored)
 
-pub in_turn_more : (stored : List Rule) (i : ℕ) (d : Rule) → i < length stored → in_turn (reverse (take (i + 1) stored)) ≡ lower (26 + i) (get_or stored i d) && in_turn (reverse (take i stored))
-in_turn_more stored i d lt =
-    let older = reverse (take i stored) in
-    ap in_turn (stored_more stored i d lt) ∙ ap (λ n. lower n (get_or stored i d) && in_turn older) (stored_known stored i (omega arith))
+-- whether a stored rule is made of letters known before it, by its place
+abbrev pub in_its_turn : ℕ × Rule → Bool
+in_its_turn (i, rule) = lower (26 + i) rule
 
-in_turn_older : (later older : List Rule) → in_turn (later ++ older) ≡ true → in_turn older ≡ true
-in_turn_older [] older h = h
-in_turn_older (rule ∷ later) older h = in_turn_older later older (and_parts (lower (known (later ++ older)) rule) (in_turn (later ++ older)) h).1
+turns_onto : (stored older : List Rule) → (list_all in_its_turn (enumerate_from (length older) stored) && in_turn older) ≡ in_turn (reverse stored ++ older)
+turns_onto [] older = refl
+turns_onto (rule ∷ stored) older =
+    let here = lower (known older) rule in
+    let later = list_all in_its_turn (enumerate_from (length (rule ∷ older)) stored) in
+    let moved : reverse (rule ∷ stored) ++ older ≡ reverse stored ++ (rule ∷ older) = ap (λ l. l ++ older) (reverse-append (rule ∷ []) stored) ∙ append_assoc (reverse stored) (rule ∷ []) older in
+    ap (λ n. (here && list_all in_its_turn (enumerate_from n stored)) && in_turn older) (add-one (length older)) ∙ ap (λ b. b && in_turn older) (and_comm here later)
+    ∙ and_assoc later here (in_turn older) ∙ turns_onto stored (rule ∷ older) ∙ ap in_turn (sym moved)
 
--- where all are made in turn, each is
+-- all are made in turn where each is
+pub turns_by_place : (stored : List Rule) → list_all in_its_turn (enumerate_from 0 stored) ≡ in_turn (reverse stored)
+turns_by_place stored = sym (and-true (list_all in_its_turn (enumerate_from 0 stored))) ∙ turns_onto stored [] ∙ ap in_turn (append-nil (reverse stored))
+
 pub in_turn_lower : (stored : List Rule) (i : ℕ) (d : Rule) → i < length stored → in_turn (reverse stored) ≡ true → lower (26 + i) (get_or stored i d) ≡ true
 in_turn_lower stored i d lt h =
-    let front = take (i + 1) stored in
-    let back = drop (i + 1) stored in
-    let parts : reverse stored ≡ reverse back ++ reverse front = ap reverse (sym (take-append-drop (i + 1) stored)) ∙ reverse-append front back in
-    let all : in_turn (reverse front) ≡ true = in_turn_older (reverse back) (reverse front) (ap in_turn (sym parts) ∙ h) in
-    (and_parts (lower (26 + i) (get_or stored i d)) (in_turn (reverse (take i stored))) (sym (in_turn_more stored i d lt) ∙ all)).0
+    let long : i < length (enumerate_from 0 stored) = omega (arith, length-enumerate_from 0 stored) in
+    let here : get_or (enumerate_from 0 stored) i (0, d) ≡ (i, get_or stored i d) = get_or-enumerate_from 0 stored i (0, d) lt ∙ ap (λ k. (k, get_or stored i d)) (zero-add i) in
+    ap in_its_turn (sym here) ∙ and_at (list_all in_its_turn) in_its_turn refl (λ _ _. refl) (enumerate_from 0 stored) i (0, d) long (turns_by_place stored ∙ h)
 
--- whether a table can be filled by rules that are stored oldest first
-pub fillable_short : (stored : List Rule) (size : ℕ) → size < 26 + length stored → false ≡ fillable (reverse stored) size
-fillable_short stored size lt =
-    let short : size < known (reverse stored) = omega (arith, length-reverse stored) in
-    ap (λ b. b && in_turn (reverse stored)) (sym (lt-leb (known (reverse stored)) size short))
-
+-- whether a table can be filled by rules that are stored oldest first, and why not
 pub fillable_room : (stored : List Rule) (size : ℕ) → 26 + length stored ≤ size → in_turn (reverse stored) ≡ fillable (reverse stored) size
 fillable_room stored size le =
     let room : known (reverse stored) ≤ size = omega (arith, length-reverse stored) in
     ap (λ b. b && in_turn (reverse stored)) (sym (le-leb (known (reverse stored)) size room))
 
-pub fillable_parts : (stored : List Rule) (size : ℕ) → true ≡ fillable (reverse stored) size → (26 + length stored ≤ size) × (in_turn (reverse stored) ≡ true)
-fillable_parts stored size h =
-    let p = and_parts (leb (known (reverse stored)) size) (in_turn (reverse stored)) (sym h) in
+no_refusal : (room turn : Bool) → None ≡ cond room (cond turn None (Some OutOfTurn)) (Some SmallTable) → (room ≡ true) × (turn ≡ true)
+no_refusal true true e = (refl, refl)
+no_refusal true false e = cc
+no_refusal false turn e = cc
+
+pub taken_parts : (stored : List Rule) (size : ℕ) → None ≡ fill_refusal (reverse stored) size → (26 + length stored ≤ size) × (in_turn (reverse stored) ≡ true)
+taken_parts stored size h =
+    let p = no_refusal (leb (known (reverse stored)) size) (in_turn (reverse stored)) h in
     (omega (arith, length-reverse stored, leb-true (known (reverse stored)) size p.0), p.1)
 
 -- the word that a rule stands for
@@ -99,10 +108,6 @@ module _ {V : Type 0} (letter : ℕ → V) {empty : V} {join : V → V → V} (a
   value_for : (f : ℕ → V) (rule : Rule) → word_value f empty join (word_for rule) ≡ rule_value f empty join rule
   value_for f (Pair a b) = ap (join (f a)) (neutral.right (f b))
   value_for f (Block a n) = value_copies f a n
-
-  -- a table with the values of a to z is filled where there are no rules
-  pub letters_filled : (t : List V) → ((a : ℕ) → a < 26 → get_or t a empty ≡ letter a) → Filled letter empty join [] t
-  letters_filled t is a lt = is a lt ∙ sym ((values_of letter empty join assoc neutral).of_a_to_z [] a lt)
 
   -- the values in a filled table are those of what known letters spell
   table_word : (rules : List Rule) (t : List V) (w : Word) → Filled letter empty join rules t → AllByRecursion (λ a. a < known rules) w → table_value empty join t w ≡ word_value (λ a. word_value letter empty join (spell rules a)) empty join w

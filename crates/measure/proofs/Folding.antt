@@ -1,17 +1,14 @@
 -- What the two laws give of rows of joins. Assumes nothing.
-use Rattle.std.proofs.Common.{◌≡◌, ℕ, zero, suc, ◌+◌, ◌/◌, ◌%◌, ◌<◌, ◌≤◌, [], ◌∷◌, ◌++◌, length, get_or, take, sym, refl, ap, ◌∙◌, arith}
-use Rattle.std.proofs.lemmas.List.{take_more}
+use Rattle.std.proofs.Common.{◌≡◌, ℕ, zero, suc, ◌+◌, ◌/◌, ◌%◌, ◌<◌, [], ◌∷◌, sym, refl, ap, ◌∙◌, arith}
+use Rattle.std.specs.List.{fold}
 use Rattle.model.specs.Spelling.{Word}
 use Rattle.systems.specs.Values.{Associative, Neutral, word_value, times}
 
 module _ {V : Type 0} {empty : V} {join : V → V → V} (assoc : Associative join) (neutral : Neutral empty join) where
-  -- a word and one letter more
-  value_push : (letter : ℕ → V) (w : Word) (a : ℕ) → join (word_value letter empty join w) (letter a) ≡ word_value letter empty join (w ++ (a ∷ []))
-  value_push letter [] a = neutral.left (letter a) ∙ sym (neutral.right (letter a))
-  value_push letter (b ∷ w) a = assoc.associates (letter b) (word_value letter empty join w) (letter a) ∙ ap (join (letter b)) (value_push letter w a)
-
-  pub value_more : (letter : ℕ → V) (w : Word) (i : ℕ) → i < length w → join (word_value letter empty join (take i w)) (letter (get_or w i 0)) ≡ word_value letter empty join (take (i + 1) w)
-  value_more letter w i lt = value_push letter (take i w) (get_or w i 0) ∙ ap (word_value letter empty join) (sym (take_more w i 0 lt))
+  -- a word whose letters are joined one after another
+  pub value_fold : (letter : ℕ → V) (v : V) (w : Word) → fold (λ done a. join done (letter a)) v w ≡ join v (word_value letter empty join w)
+  value_fold letter v [] = sym (neutral.right v)
+  value_fold letter v (a ∷ w) = value_fold letter (join v (letter a)) w ∙ assoc.associates v (letter a) (word_value letter empty join w)
 
   -- twice as many joins of a value are as many of its square
   times_square : (n : ℕ) (v : V) → times empty join (n + n) v ≡ times empty join n (join v v)
@@ -20,10 +17,7 @@ module _ {V : Type 0} {empty : V} {join : V → V → V} (assoc : Associative jo
       let e : suc n + suc n ≡ suc (suc (n + n)) = omega arith in
       ap (λ k. times empty join k v) e ∙ ap (λ x. join v (join v x)) (times_square n v) ∙ sym (assoc.associates v v (times empty join n (join v v)))
 
-  -- repeated squaring: its start, a turn at an even and at an odd count, and its end
-  pub power_none : (done v : V) (n : ℕ) → done ≡ empty → join done (times empty join n v) ≡ times empty join n v
-  power_none done v n e = ap (λ x. join x (times empty join n v)) e ∙ neutral.left (times empty join n v)
-
+  -- repeated squaring: a turn at an even and at an odd count
   pub power_even : (done v same square all : V) (n : ℕ) → same ≡ done → square ≡ join v v → n % 2 < 1 → join done (times empty join n v) ≡ all → join same (times empty join (n / 2) square) ≡ all
   power_even done v same square all n kept sq even e =
       let twice : n ≡ n / 2 + n / 2 = omega arith in
@@ -34,8 +28,3 @@ module _ {V : Type 0} {empty : V} {join : V → V → V} (assoc : Associative jo
       let twice : n ≡ suc (n / 2 + n / 2) = omega arith in
       ap (λ x. join x (times empty join (n / 2) square)) one ∙ ap (λ x. join (join done v) (times empty join (n / 2) x)) sq ∙ assoc.associates done v _
       ∙ ap (join done) (sym (ap (λ k. times empty join k v) twice ∙ ap (join v) (times_square (n / 2) v))) ∙ e
-
-  pub power_all : (done v all : V) (n : ℕ) → n ≤ 0 → join done (times empty join n v) ≡ all → done ≡ all
-  power_all done v all n le e =
-      let z : 0 ≡ n = omega arith in
-      sym (neutral.right done) ∙ ap (λ k. join done (times empty join k v)) z ∙ e

@@ -1,2 +1,4 @@
 pub mod Filling
 pub mod Folding
+pub mod Symbols
+pub mod Zipping

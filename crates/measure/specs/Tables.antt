@@ -1,6 +1,8 @@
 -- Tables of values, by the letters' numbers. Assumes nothing.
-use Rattle.std.specs.Prelude.{◌≡◌, ℕ, ◌<◌, Bool, true, ◌&&◌, List, [], ◌∷◌, get_or, nat_le, slice_index_or}
+use Rattle.std.specs.Prelude.{◌≡◌, ℕ, ◌<◌, Bool, true, ◌&&◌, cond, Option, None, Some, List, [], ◌∷◌, get_or, nat_le, slice_index_or}
 use Rattle.model.specs.declared.Rule.{Rule}
+use Rattle.measure.specs.declared.values.FillRefusal.{FillRefusal}
+use Rattle.measure.specs.declared.values.FillRefusal.TheVariants.{SmallTable, OutOfTurn}
 use Rattle.model.specs.Spelling.{Word, known, spell}
 use Rattle.model.specs.Witnesses.{lower}
 use Rattle.systems.specs.Values.{word_value}
@@ -21,3 +23,7 @@ in_turn (rule ∷ older) = lower (known older) rule && in_turn older
 -- the rules are made in turn, and a table of this size has room for every known letter
 abbrev pub fillable : List Rule → ℕ → Bool
 fillable rules size = nat_le (known rules) size && in_turn rules
+
+-- why a table of this size is not filled: it has no room for every known letter, or else the rules are not made in turn
+abbrev pub fill_refusal : List Rule → ℕ → Option FillRefusal
+fill_refusal rules size = cond (nat_le (known rules) size) (cond (in_turn rules) None (Some OutOfTurn)) (Some SmallTable)

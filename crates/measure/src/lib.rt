@@ -10,6 +10,7 @@ use crate::variable::Variable;
 
 pub mod letter;
 pub mod sets;
+pub mod symbol;
 pub mod values;
 pub mod variable;
 

@@ -6,8 +6,10 @@ use length::kind::Length;
 use letters_used::kind::LettersUsed;
 use machine::kind::Machine;
 use measure::letter::Letter;
+use measure::sets::has;
 use measure::variable::Variable;
 use model::Rule;
+use std::array;
 use std::test::Fail;
 
 #[test]
@@ -55,10 +57,9 @@ fn length_refusal(least: u32, most: u32) -> u8 {
     let mut all_most = [0; 26];
     all_least[25] = least;
     all_most[25] = most;
-    match Length::new(all_least, all_most) {
-        Ok(_) => 0,
-        Err(refusal) => refusal.number(),
-    }
+    Length::new(all_least, all_most)
+        .err()
+        .map_or(0, |refusal| refusal.number())
 }
 
 #[test]
@@ -91,10 +92,9 @@ fn set_refusal(required: u32, allowed: u32) -> u8 {
     let mut all_allowed = [0; 26];
     all_required[25] = required;
     all_allowed[25] = allowed;
-    match LettersUsed::new(all_required, all_allowed) {
-        Ok(_) => 0,
-        Err(refusal) => refusal.number(),
-    }
+    LettersUsed::new(all_required, all_allowed)
+        .err()
+        .map_or(0, |refusal| refusal.number())
 }
 
 #[test]
@@ -112,10 +112,7 @@ fn sets_have_26_bits(rt: HostRuntime) -> Result<(), Fail> {
 fn machine_accepts_by_its_last_state(rt: HostRuntime) -> Result<(), Fail> {
     let heap = rt.alloc();
     // every letter leads to the next state, from the last one back to the first
-    let mut next = [0u8; 208];
-    for i in 0..208 {
-        next[i] = ((i / 26 + 1) % 8) as u8;
-    }
+    let next = array::from_fn(|i| ((i / 26 + 1) % 8) as u8);
     let kind = Machine::new(next, [0b1000_0001; 26])?;
     assert_eq!(rt; passes(heap, &kind, &[], 0)?, true);
     assert_eq!(rt; passes(heap, &kind, &[0], 0)?, false);
@@ -132,10 +129,9 @@ fn machine_accepts_by_its_last_state(rt: HostRuntime) -> Result<(), Fail> {
 fn machine_refusal(state: u8) -> u8 {
     let mut next = [0; 208];
     next[207] = state;
-    match Machine::new(next, [0; 26]) {
-        Ok(_) => 0,
-        Err(refusal) => refusal.number(),
-    }
+    Machine::new(next, [0; 26])
+        .err()
+        .map_or(0, |refusal| refusal.number())
 }
 
 #[test]
@@ -147,16 +143,30 @@ fn states_are_0_to_7(rt: HostRuntime) {
 #[test]
 fn letters_and_variables_are_26(rt: HostRuntime) {
     for number in 0..=255 {
-        let letter = match Letter::new(number) {
-            Some(letter) => letter.number(),
-            None => 255,
-        };
-        let variable = match Variable::new(number) {
-            Some(variable) => variable.number(),
-            None => 255,
-        };
+        let letter = Letter::new(number).map_or(255, |letter| letter.number());
+        let variable = Variable::new(number).map_or(255, |variable| variable.number());
         let expected = if number < 26 { number } else { 255 };
         assert_eq!(rt; letter, expected);
         assert_eq!(rt; variable, expected);
+    }
+}
+
+#[test]
+fn all_letters_are_a_to_z(rt: HostRuntime) {
+    let letters: [Letter; 26] = Letter::all();
+    for (number, letter) in letters.iter().enumerate() {
+        assert_eq!(rt; usize::from(letter.number()), number);
+    }
+}
+
+#[test]
+fn sets_hold_their_bits_alone(rt: HostRuntime) {
+    for number in 0..=255 {
+        assert_eq!(rt;
+            has(0b1_0000_0101, number),
+            number == 0 || number == 2 || number == 8
+        );
+        assert_eq!(rt; has(u32::MAX, number), number < 32);
+        assert_eq!(rt; has(0, number), false);
     }
 }

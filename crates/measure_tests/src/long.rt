@@ -4,6 +4,7 @@ use crate::tools::{mixed_word, value_of};
 use length::kind::Length;
 use letters_used::kind::LettersUsed;
 use machine::kind::Machine;
+use std::array;
 use std::test::Fail;
 
 // How long the words are.
@@ -41,10 +42,7 @@ fn collects_every_letter(rt: HostRuntime) -> Result<(), Fail> {
 #[test]
 fn reads_letter_by_letter(rt: HostRuntime) -> Result<(), Fail> {
     let heap = rt.alloc();
-    let mut next = [0u8; 208];
-    for i in 0..208 {
-        next[i] = (i * i % 13 % 8) as u8;
-    }
+    let next = array::from_fn(|i| (i * i % 13 % 8) as u8);
     let kind = Machine::new(next, [0; 26])?;
     for n in LONG {
         let word = mixed_word(heap, n)?;

@@ -26,13 +26,13 @@ fn both_parts_and_their_opposite(rt: HostRuntime) -> Result<(), Fail> {
         [false, true, false, false],
         [true, false, false, false],
     ];
-    for variable in 0..3 {
-        for i in 0..4 {
-            let expected = by_both[variable][i];
-            assert_eq!(rt; passes(heap, &both, words[i], variable as u8)?, expected);
+    for (variable, row) in by_both.iter().enumerate() {
+        let variable = variable as u8;
+        for (word, expected) in words.iter().zip(row) {
+            assert_eq!(rt; passes(heap, &both, word, variable)?, *expected);
             assert_eq!(rt;
-                passes(heap, &outer, words[i], variable as u8)?,
-                expected != (variable > 0)
+                passes(heap, &outer, word, variable)?,
+                *expected != (variable > 0)
             );
         }
     }

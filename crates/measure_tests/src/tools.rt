@@ -24,11 +24,7 @@ pub(crate) fn table_for<K: Measure>(
     kind: &K,
     room: usize,
 ) -> Result<Vec<K::Value>, Fail> {
-    let mut table = Vec::new(heap);
-    for _ in 0..room {
-        table.push(kind.empty())?;
-    }
-    Ok(table)
+    Ok(vec![in heap; kind.empty(); room]?)
 }
 
 // The value of what the word spells by these rules.
@@ -39,9 +35,7 @@ pub(crate) fn value_of<K: Measure>(
     word: &[u16],
 ) -> Result<K::Value, Fail> {
     let mut table = table_for(heap, kind, 64)?;
-    if !fill_values(kind, rules, table.as_mut_slice()) {
-        return Err(Fail::new("the table is not filled"));
-    }
+    fill_values(kind, rules, table.as_mut_slice())?;
     Ok(word_value(kind, table.as_slice(), word))
 }
 
@@ -52,8 +46,6 @@ pub(crate) fn passes<K: Measure>(
     word: &[u16],
     variable: u8,
 ) -> Result<bool, Fail> {
-    let Some(variable) = Variable::new(variable) else {
-        return Err(Fail::new("no variable"));
-    };
+    let variable = Variable::new(variable).ok_or_else(|| Fail::new("no variable"))?;
     Ok(kind.passes(variable, value_of(heap, kind, &[], word)?))
 }

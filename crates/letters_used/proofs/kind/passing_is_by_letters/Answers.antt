@@ -1,44 +1,30 @@
-use Rattle.std.proofs.Common.{◌≡◌, ℕ, zero, suc, ◌+◌, ◌/◌, ◌%◌, ◌^◌, ◌<◌, ◌≤◌, min, true, eqb, ◌⊎◌, sym, ap, ◌∙◌, inl, inr, ⊎_elim, arith}
-use lib.Bits.{bit_and, and_step, and_shr, and_zero_r}
-use Rattle.std.proofs.lemmas.Nat.{shr-shr}
+use Rattle.std.proofs.Common.{◌≡◌, ℕ, ◌<◌, min, true, sym, ap, ◌∙◌, inl, inr, arith}
+use lib.Bits.{bit_and}
+use Rattle.std.specs.Int.{bit_at}
 use Rattle.std.proofs.lemmas.Bool.{eqb-true, eq-eqb, and_parts, and_from, cases_lt}
-use Rattle.measure.specs.Sets.{holds}
+use Rattle.std.proofs.lemmas.Nat.Bits.{bit_at_and, bit_at-lt, same_from_bits}
 use Rattle.letters_used.specs.LetterSets.{covers}
 use Rattle.letters_used.specs.Theorems.{Within}
 use Rattle.letters_used.proofs.kind.passing_is_by_letters.Goals as goal
 
 covers_within : (big small : ℕ) → covers big small ≡ true → Within small big
 covers_within big small h a has =
-    let x = big / 2 ^ a in
-    let y = small / 2 ^ a in
-    let same : bit_and x y ≡ y = sym (and_shr big small a) ∙ ap (λ n. n / 2 ^ a) (eqb-true (bit_and big small) small h) in
-    let step = and_step x y in
-    let one : y % 2 ≡ 1 = eqb-true (y % 2) 1 has in
-    eq-eqb (x % 2) 1 (omega arith)
+    let both : min (bit_at big a) (bit_at small a) ≡ bit_at small a = sym (bit_at_and big small a) ∙ ap (λ n. bit_at n a) (eqb-true (bit_and big small) small h) in
+    let one : bit_at small a ≡ 1 = eqb-true (bit_at small a) 1 has in
+    let low = bit_at-lt big a in
+    eq-eqb (bit_at big a) 1 (omega arith)
 
-holds_half : (n a : ℕ) → holds (n / 2) a ≡ holds n (1 + a)
-holds_half n a = ap (λ m. eqb (m % 2) 1) (shr-shr n 1 a)
+least_digit : (b s : ℕ) → b < 2 → s < 2 → (s ≡ 1 → b ≡ 1) → min b s ≡ s
+least_digit b s low small h = elim (cases_lt s 1) [ inl none ↦ omega arith | inr some ↦ let one = h (omega arith) in omega arith ]
 
-holds_first : (n : ℕ) → holds n 0 ≡ eqb (n % 2) 1
-holds_first n = let same : n / 1 ≡ n = omega arith in ap (λ m. eqb (m % 2) 1) same
-
-cases_digit : (n : ℕ) → (n % 2 ≡ 0) ⊎ (n % 2 ≡ 1)
-cases_digit n = ⊎_elim (λ (l : n % 2 < 1). inl (omega arith)) (λ (l : 1 ≤ n % 2). inr (omega arith)) (cases_lt (n % 2) 1)
-
--- for a small set up to n, by halves
-within_and : (n big small : ℕ) → small ≤ n → Within small big → bit_and big small ≡ small
-within_and n big zero h all = and_zero_r big
-within_and zero big (suc s) h all = absurd (omega arith)
-within_and (suc n) big (suc s) h all =
-    let small = suc s in
-    let halves = within_and n (big / 2) (small / 2) (omega arith) (λ a has. holds_half big a ∙ all (1 + a) (sym (holds_half small a) ∙ has)) in
-    let digit : small % 2 ≡ 1 → big % 2 ≡ 1 = λ one. eqb-true (big % 2) 1 (sym (holds_first big) ∙ all 0 (holds_first small ∙ eq-eqb (small % 2) 1 one)) in
-    let least : min (big % 2) (small % 2) ≡ small % 2 = elim (cases_digit small) [ inl z ↦ omega arith | inr one ↦ let d = digit one in omega arith ] in
-    let step = and_step big small in
-    omega arith
+within_covers : (big small : ℕ) → Within small big → covers big small ≡ true
+within_covers big small all =
+    eq-eqb _ _ (same_from_bits (bit_and big small) small (λ a.
+    let digits : bit_at small a ≡ 1 → bit_at big a ≡ 1 = λ has. eqb-true (bit_at big a) 1 (all a (eq-eqb (bit_at small a) 1 has)) in
+    bit_at_and big small a ∙ least_digit (bit_at big a) (bit_at small a) (bit_at-lt big a) (bit_at-lt small a) digits))
 
 pub returns : goal.returns
 returns c = record {
   passing = λ required allowed x h. let p = and_parts (covers x required) (covers allowed x) h in (covers_within x required p.0, covers_within allowed x p.1);
-  within = λ required allowed x low high. and_from (covers x required) (covers allowed x) (eq-eqb _ _ (within_and required x required (omega arith) low)) (eq-eqb _ _ (within_and x allowed x (omega arith) high));
+  within = λ required allowed x low high. and_from (covers x required) (covers allowed x) (within_covers x required low) (within_covers allowed x high);
 }

@@ -1,17 +1,11 @@
-use Rattle.std.proofs.Common.{◌&&◌, reverse, take, sym, ap, ◌∙◌, take_all}
-use Rattle.measure.specs.Tables.{in_turn}
-use Rattle.measure.proofs.Filling.{in_turn_more}
+use Rattle.std.proofs.Common.{◌∙◌, rules, tests}
+use Rattle.std.proofs.lemmas.Iterator.{YieldsList-from_slice}
+use Rattle.std.proofs.lemmas.Iterator.Consumers.{YieldsList-from_enumerate}
+use Rattle.std.proofs.lemmas.Iterator.Search.{all_from_yields_List}
+use Rattle.measure.proofs.Filling.{in_its_turn, turns_by_place}
 use Rattle.measure.proofs.values.all_in_turn.Goals as goal
-use Rattle.measure.proofs.values.all_in_turn.Goals.{then-is_lower, else-is_lower}
-
-pub loop-i-preserved : goal.loop-i-preserved
-loop-i-preserved c =
-    let rules = c.args.rules.now in
-    let i = c.loop-i.i in
-    elim c.if-is_lower.branch [
-      | then-is_lower w ↦ w.all-is ∙ c.loop-i.invariant ∙ ap (λ b. b && in_turn (reverse (take i rules))) w.if-is_lower.ensures ∙ sym (in_turn_more rules i _ c.loop-i-test.true)
-      | else-is_lower w ↦ w.all-is ∙ w.if-is_lower.false ∙ ap (λ b. b && in_turn (reverse (take i rules))) w.if-is_lower.ensures ∙ sym (in_turn_more rules i _ c.loop-i-test.true)
-    ]
 
 pub returns : goal.returns
-returns c = c.loop-i.invariant ∙ ap (λ rules. in_turn (reverse rules)) (take_all _ _ c.loop-i-test.false)
+returns c =
+    let rules_now = c.args.rules.now in
+    all_from_yields_List in_its_turn _ _ _ c.all.ensures.ran (YieldsList-from_enumerate (YieldsList-from_slice rules_now (cc)) (cc)) (λ x b q k. search (rules, tests)) ∙ turns_by_place rules_now

@@ -1,13 +1,13 @@
-use Rattle.std.proofs.Common.{ap, ◌∙◌, arith}
+use Rattle.std.proofs.Common.{◌≡◌, set, ap, ◌∙◌, arith}
 use Rattle.measure.proofs.Filling.{letters_more}
+use Rattle.measure.proofs.Symbols.{number_is_place}
 use Rattle.measure.proofs.values.fill_letters.Goals as goal
-use Rattle.measure.proofs.values.fill_letters.Goals.{in-Some, in_default}
 
-pub loop-number-preserved : goal.loop-number-preserved
-loop-number-preserved g c =
+pub loop-letter-preserved : goal.loop-letter-preserved
+loop-letter-preserved g c =
     let single = g.K.Measure.single c.args.kind.now in
-    let n = c.loop-number.number in
-    elim c.match-new.branch [
-      | in-Some w ↦ letters_more single _ c.args.table.now c.loop-number.table _ n w.letter-value.result (omega arith) (omega arith) w.table-is (w.letter-value.ensures ∙ ap single w.in-Some.ensures) c.loop-number.invariant
-      | in_default w ↦ absurd (omega (arith, w.in_default.ensures))
-    ]
+    let i = c.loop-letter.letter-index in
+    let t = c.loop-letter.table in
+    let number = number_is_place (λ l. l.number) c.all-letter-items.result 26 i c.letter-item.result c.all-letter-items.ensures c.loop-letter-test.true in
+    let place : c.from.result ≡ i = omega arith in
+    letters_more single _ c.args.table.now t _ i c.letter.result (omega arith) (omega arith) (ap (λ k. set t k c.letter.result) place) (c.letter.ensures ∙ ap single number) c.loop-letter.invariant

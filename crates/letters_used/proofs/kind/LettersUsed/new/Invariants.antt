@@ -1,5 +1,5 @@
-use Rattle.std.proofs.Common.{ℕ, ◌^◌, ◌<◌, get_or}
+use Rattle.std.proofs.Common.{ℕ, ◌^◌, ◌<◌, length, get_or}
 use Rattle.letters_used.proofs.kind.LettersUsed.new.Given as goal
 
-abbrev pub invariant-loop-v : goal.invariant-loop-v
-invariant-loop-v l = (u : ℕ) → u < l.v → (get_or l.required u 0 < 2 ^ 26) × (get_or l.allowed u 0 < 2 ^ 26)
+abbrev pub invariant-loop-must : goal.invariant-loop-must
+invariant-loop-must l = (u : ℕ) → u < length l.yielded → (get_or l.fn.required u 0 < 2 ^ 26) × (get_or l.fn.allowed u 0 < 2 ^ 26)

@@ -1,12 +1,7 @@
-use Rattle.std.proofs.Common.{refl}
-use lib.Bits.{or_lt}
-use Rattle.letters_used.specs.LetterSets.{set-≡}
+use Rattle.std.proofs.lemmas.Nat.{or_lt}
 use Rattle.letters_used.proofs.kind.LettersUsedMeasure.join.Goals as goal
 
 pub invariant_of-result : goal.invariant_of-result
 invariant_of-result c = record {
   ok = or_lt 26 c.args.a.bits c.args.b.bits c.args.a.ok c.args.b.ok;
 }
-
-pub returns : goal.returns
-returns c = set-≡ _ _ refl

@@ -1,7 +1,6 @@
-use Rattle.std.proofs.Common.{◌≡◌, ◌^◌, ◌<◌, min, ap, ◌∙◌, arith}
+use Rattle.std.proofs.Common.{◌^◌, ◌<◌, arith}
 use lib.Pow.{pow-lt}
 use Rattle.std.proofs.lemmas.Nat.{one_shl}
-use Rattle.letters_used.specs.LetterSets.{set-≡}
 use Rattle.letters_used.proofs.kind.LettersUsedMeasure.letter.Goals as goal
 
 pub invariant_of-result : goal.invariant_of-result
@@ -13,9 +12,3 @@ invariant_of-result c =
     record {
       ok = omega arith;
     }
-
-pub returns : goal.returns
-returns c =
-    let n = c.number.result in
-    let same : n ≡ min c.args.letter.number 25 = omega arith in
-    set-≡ _ _ (one_shl n 32 (omega arith) ∙ ap (λ k. 2 ^ k) same)
