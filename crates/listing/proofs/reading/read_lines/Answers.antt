@@ -26,9 +26,6 @@ overflow_add-line c =
     let fits : c.loop-rest.line ≤ length c.args.text.now = omega arith in
     search rules
 
-pub loop-rest-smaller : goal.loop-rest-smaller
-loop-rest-smaller c = shorter c.loop-rest.rest.now c.in-Some.bytes.now c.in-Some.after.now c.in-Some.ensures.1
-
 pub loop-rest-preserved : goal.loop-rest-preserved
 loop-rest-preserved c =
     let some : c.read_line.result ≡ Some c.in_ok-stage.stage = grind arith in
