@@ -50,9 +50,6 @@ make_spaceless : (rule : Rule) → free 32 (make rule) ≡ true
 make_spaceless (Pair a b) = refl
 make_spaceless (Block a n) = refl
 
-pub no_make : (fields : Bytes) → free 32 fields ≡ true → Reads (Within 538 (2 ^ 32)) rule_text fields None
-no_make fields h = λ rule good e. no_cut 32 fields (make rule) (letters rule) h (e ∙ text_is rule)
-
 -- the two parts of a rule's text
 parts : (fields front back : Bytes) (rule : Rule) → free 32 front ≡ true → fields ≡ front ++ 32 ∷ back → fields ≡ rule_text rule → (front ≡ make rule) × (back ≡ letters rule)
 parts fields front back rule h cut e = same_cut 32 front (make rule) back (letters rule) h (make_spaceless rule) (sym cut ∙ e ∙ text_is rule)
@@ -63,20 +60,6 @@ other_make fields front back h cut np nb = λ rule good e. neither rule (parts f
     neither : (rule : Rule) → front ≡ make rule → ⊥
     neither (Pair a b) is = np is
     neither (Block a n) is = nb is
-
-pub no_pair : (fields front back : Bytes) → free 32 front ≡ true → fields ≡ front ++ 32 ∷ back → front ≡ codes "pair" → Reads (Both (Below 538) (Below 538)) (joining 32 letter_name letter_name) back None → Reads (Within 538 (2 ^ 32)) rule_text fields None
-no_pair fields front back h cut is none = λ rule good e. neither rule good (parts fields front back rule h cut e)
-  where
-    neither : (rule : Rule) → Within 538 (2 ^ 32) rule → (front ≡ make rule) × (back ≡ letters rule) → ⊥
-    neither (Pair a b) good p = none (a, b) good p.1
-    neither (Block a n) good p = let z : ◌≡◌ {A = ℕ} 112 98 = ap (λ l. get_or l 0 0) (sym is ∙ p.0) in omega arith
-
-pub no_block : (fields front back : Bytes) → free 32 front ≡ true → fields ≡ front ++ 32 ∷ back → front ≡ codes "block" → Reads (Both (Below 538) (Below (2 ^ 32))) (joining 32 letter_name decimal) back None → Reads (Within 538 (2 ^ 32)) rule_text fields None
-no_block fields front back h cut is none = λ rule good e. neither rule good (parts fields front back rule h cut e)
-  where
-    neither : (rule : Rule) → Within 538 (2 ^ 32) rule → (front ≡ make rule) × (back ≡ letters rule) → ⊥
-    neither (Pair a b) good p = let z : ◌≡◌ {A = ℕ} 98 112 = ap (λ l. get_or l 0 0) (sym is ∙ p.0) in omega arith
-    neither (Block a n) good p = none (a, n) good p.1
 
 -- a rule's line is its letter's name, a space and its text
 line_is : (c : ℕ) (rule : Rule) → rule_line c rule ≡ letter_name c ++ 32 ∷ rule_text rule

@@ -6,9 +6,6 @@ use Rattle.listing.proofs.RuleLines.{other_make}
 use Rattle.listing.proofs.rules.rule_of.Goals as goal
 use Rattle.std.proofs.lemmas.Bool.Decides.{Decides-eqb}
 
-rejoined : (fields front back make letters : Bytes) → fields ≡ front ++ 32 ∷ back → front ≡ make → back ≡ letters → fields ≡ make ++ 32 ∷ letters
-rejoined fields front back make letters cut e f = cut ∙ (λ i. e i ++ 32 ∷ f i)
-
 pub returns-else-eq-2 : goal.returns-else-eq-2
 returns-else-eq-2 c =
     let cut = c.in_ok-make.ensures in
