@@ -23,6 +23,7 @@ fn request(words: &[String]) -> Option<Request> {
     }
 }
 
+// Prints what is asked for of the listing on standard input, or why there is no such thing.
 fn main(rt: HostRuntime) -> anyhow::Result<ExitCode> {
     let heap = rt.alloc();
     let words: Vec<String> = env::args(&rt)?.skip(1).collect(heap)?;
