@@ -1,5 +1,6 @@
 -- A variable and its word read from their line, and added or refused. Assumes nothing.
-use Rattle.std.proofs.Common.{◌≡◌, ℕ, ◌+◌, ◌^◌, ◌<◌, ◌≤◌, Bool, true, false, eqb, [], ◌∷◌, ◌++◌, length, get_or, Some, None, Ok, decimal, MatchBool, sym, refl, ap, ◌∙◌, arith, lit<}
+use Rattle.std.proofs.Common.{◌≡◌, ℕ, ◌+◌, ◌^◌, ◌<◌, ◌≤◌, Bool, true, false, eqb, [], ◌∷◌, ◌++◌, length, get_or, Some, None, Ok, decimal, MatchOption, sym, refl, ap, ◌∙◌, arith, lit<}
+use Rattle.std.specs.Bool.{then_some}
 use Rattle.std.specs.Option.{option_map}
 use Rattle.std.proofs.lemmas.Fmt.{decimal_injective}
 use Rattle.std.proofs.lemmas.Bool.{and_parts, cond-true, eq-eqb, eqb-true, eqb-false}
@@ -111,7 +112,7 @@ kept c line x n w d f same = record {
 }
 
 -- the length is compared
-pub compared : (c : Contents) (line : Bytes) (x n : ℕ) (w : Word) (d : Contents) (total : ℕ) (r : Bool) → rules_fit c.rules ≡ true → Filled c line x n w d → Ok total ≡ length_answer (spelled d x) → r ≡ eqb total n → MatchBool r (Kept c line d) (Stuck (Giving c.rules c.entries) line)
+pub compared : (c : Contents) (line : Bytes) (x n : ℕ) (w : Word) (d : Contents) (total : ℕ) (r : Bool) → rules_fit c.rules ≡ true → Filled c line x n w d → Ok total ≡ length_answer (spelled d x) → r ≡ eqb total n → MatchOption (then_some r (tt {0})) (Stuck (Giving c.rules c.entries) line) (λ _. Kept c line d)
 compared c line x n w d total true hr f is test =
     let both : Ok total ≡ Ok (length (spell_word c.rules w)) = is ∙ f.long in
     let same : total ≡ length (spell_word c.rules w) = cc in

@@ -1,5 +1,6 @@
 -- A word read letter by letter. Assumes nothing.
-use Rattle.std.proofs.Common.{◌≡◌, ℕ, ◌+◌, ◌<◌, ◌≤◌, Bool, true, false, cond, leb, List, [], ◌∷◌, ◌++◌, length, is_ok, Some, None, Ok, Err, MatchBool, Result, sym, refl, ap, ◌∙◌, append_assoc, append-nil, arith, lit<, length-append, MatchResult}
+use Rattle.std.proofs.Common.{◌≡◌, ℕ, ◌+◌, ◌<◌, ◌≤◌, Bool, true, false, cond, leb, List, [], ◌∷◌, ◌++◌, length, Some, None, Ok, Err, MatchOption, Option, Result, sym, refl, ap, ◌∙◌, append_assoc, append-nil, arith, lit<, length-append, MatchResult}
+use Rattle.std.specs.Result.{result_ok}
 use Rattle.std.proofs.lemmas.Bool.{lt-leb, leb-false}
 use Rattle.model.specs.Spelling.{Word, known}
 use Rattle.model.specs.Witnesses.{Contents, Entry, all_below, letters_in}
@@ -27,7 +28,7 @@ taken c a some low few =
     let three : leb 1024 (letters_in c.entries) ≡ false = lt-leb 1024 (letters_in c.entries) few in
     simp (one, two, three)
 
-pub pushes : (c d : Contents) (piece : Bytes) (a : ℕ) (r : Result (Unit {0}) LetterRefusal) → 0 < length c.entries → known c.rules ≤ 538 → a < 538 → piece ≡ letter_name a → MatchResult r (λ _. (letter_refusal c a ≡ None) × (d ≡ with_letter a c)) (λ e. (letter_refusal c a ≡ Some e) × (d ≡ c)) → MatchBool (is_ok r) (Pushed c piece d) (NotPushed c piece)
+pub pushes : (c d : Contents) (piece : Bytes) (a : ℕ) (r : Result (Unit {0}) LetterRefusal) → 0 < length c.entries → known c.rules ≤ 538 → a < 538 → piece ≡ letter_name a → MatchResult r (λ _. (letter_refusal c a ≡ None) × (d ≡ with_letter a c)) (λ e. (letter_refusal c a ≡ Some e) × (d ≡ c)) → MatchOption (result_ok r) (NotPushed c piece) (λ _. Pushed c piece d)
 pushes c d piece a (Ok u) some few lt is h =
     let known_a : a < known c.rules = leb-false _ _ (unknown_not (leb (length c.entries) 0) (leb (known c.rules) a) (leb 1024 (letters_in c.entries)) h.0) in
     record { a = a; low = known_a; is = is; new = h.1 }
@@ -158,6 +159,6 @@ no_word_last c field d rest few nd m hp np (b ∷ w) low le e =
     let s = still c field d rest m (b ∷ w) le l in
     np l.a s.0 s.1 (last_letter rest l.a l.u l.is hp)
 
-pub word_last : (c : Contents) (field : Bytes) (d : Contents) (rest : Bytes) (d' : Contents) (r : Bool) → known c.rules ≤ 538 → (field ≡ 45 ∷ [] → ⊥) → Midway c field d rest → free 44 rest ≡ true → MatchBool r (Pushed d rest d') (NotPushed d rest) → MatchBool r (Worded c field d') (NotWorded c field)
-word_last c field d rest d' true few nd m hp p = midway_last c field d rest d' m p
-word_last c field d rest d' false few nd m hp np = no_word_last c field d rest few nd m hp np
+pub word_last : (c : Contents) (field : Bytes) (d : Contents) (rest : Bytes) (d' : Contents) (r : Option (Unit {0})) → known c.rules ≤ 538 → (field ≡ 45 ∷ [] → ⊥) → Midway c field d rest → free 44 rest ≡ true → MatchOption r (NotPushed d rest) (λ _. Pushed d rest d') → MatchOption r (NotWorded c field) (λ _. Worded c field d')
+word_last c field d rest d' (Some u) few nd m hp p = midway_last c field d rest d' m p
+word_last c field d rest d' None few nd m hp np = no_word_last c field d rest few nd m hp np

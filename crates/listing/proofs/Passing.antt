@@ -1,11 +1,12 @@
 -- One line more, the end, or the line that is refused. Assumes nothing.
-use Rattle.std.proofs.Common.{◌≡◌, ℕ, ◌+◌, ◌<◌, ◌≤◌, Bool, true, false, eqb, List, [], ◌∷◌, ◌++◌, length, Some, None, sym, refl, ap, ◌∙◌, subst, append_assoc, append-nil, arith, length-append}
+use Rattle.std.proofs.Common.{◌≡◌, ℕ, ◌+◌, ◌<◌, ◌≤◌, Bool, true, false, eqb, List, [], ◌∷◌, ◌++◌, length, Some, None, MatchOption, Option, sym, refl, ap, ◌∙◌, subst, append_assoc, append-nil, arith, length-append}
+use Rattle.std.specs.Option.{option_map}
 use Rattle.std.proofs.lemmas.List.{length_push, nil_from_length}
 use Rattle.std.proofs.lemmas.Bool.{eqb-true}
 use Rattle.model.specs.Witnesses.{Contents}
 use Rattle.text.specs.Pieces.{Bytes, Line, lines_text}
 use Rattle.text.proofs.Cuts.{lines_append}
-use Rattle.format.specs.Listing.{rule_head, entry_head, listing}
+use Rattle.format.specs.Listing.{listing}
 use Rattle.format.specs.Reading.{Refused}
 use Rattle.format.specs.Steps.{State, Start, Ruling, Gapped, Giving, after, Run, Stuck, giving}
 use Rattle.format.proofs.Refusals.{ends, refuse_line, refuse_cut, refuse_end}
@@ -16,26 +17,30 @@ use Rattle.listing.specs.declared.reading.Stage.TheVariants.{Opening, Rules, Gap
 use Rattle.listing.specs.Lines.{Kept, NoRule, Ruled}
 use Rattle.listing.specs.Stages.{Even, Led, Passed, state_of}
 
--- each stage's line
-pub led_opening : (c : Contents) (l : Bytes) → Even Opening c → l ≡ rule_head → Led Opening c l Rules c
-led_opening c l even is = subst (λ d. Led Opening d l Rules d) even (record { run = (tt, refl, is, refl); even = refl })
-
+-- the empty line, a rule's line and a variable's line
 pub led_empty : (c : Contents) (l : Bytes) → Even Rules c → l ≡ [] → Led Rules c l Gap c
 led_empty c l even is = record { run = (None, refl, is, refl); even = even }
 
-pub led_rule : (c : Contents) (l : Bytes) (d : Contents) → Even Rules c → Ruled c l d → Led Rules c l Rules d
+led_rule : (c : Contents) (l : Bytes) (d : Contents) → Even Rules c → Ruled c l d → Led Rules c l Rules d
 led_rule c l d even r =
     subst (λ x. Led Rules c l Rules x) (sym r.new) (record { run = (Some r.rule, r.fit, r.is, refl); even = ap (with_rule r.rule) even })
 
-pub led_gap : (c : Contents) (l : Bytes) → Even Gap c → l ≡ entry_head → Led Gap c l Variables c
-led_gap c l even is = record { run = (tt, refl, is, ap (λ x. Giving c.rules x.entries) even); even = refl }
-
-pub led_variable : (c : Contents) (l : Bytes) (d : Contents) → Kept c l d → Led Variables c l Variables d
+led_variable : (c : Contents) (l : Bytes) (d : Contents) → Kept c l d → Led Variables c l Variables d
 led_variable c l d k = subst (λ x. Led Variables c l Variables x) (sym k.new) (record { run = (k.e, k.fit, k.is, refl); even = refl })
 
-pub stuck_rules : (c : Contents) (l : Bytes) → (l ≡ [] → ⊥) → NoRule c l → Stuck (Ruling c.rules) l
+stuck_rules : (c : Contents) (l : Bytes) → (l ≡ [] → ⊥) → NoRule c l → Stuck (Ruling c.rules) l
 stuck_rules c l some none None h e = some e
 stuck_rules c l some none (Some rule) h e = none rule h e
+
+-- a rule that is read, or refused
+pub read_rules : (c : Contents) (l : Bytes) (d : Contents) (o : Option (Unit {0})) → Even Rules c → (l ≡ [] → ⊥) → MatchOption o (NoRule c l) (λ _. Ruled c l d) → MatchOption (option_map (λ _. Rules) o) (Stuck (Ruling c.rules) l) (λ next. Led Rules c l next d)
+read_rules c l d None even some none = stuck_rules c l some none
+read_rules c l d (Some u) even some r = led_rule c l d even r
+
+-- a variable that is read, or refused
+pub read_variables : (c : Contents) (l : Bytes) (d : Contents) (o : Option (Unit {0})) → MatchOption o (Stuck (Giving c.rules c.entries) l) (λ _. Kept c l d) → MatchOption (option_map (λ _. Variables) o) (Stuck (Giving c.rules c.entries) l) (λ next. Led Variables c l next d)
+read_variables c l d None stuck = stuck
+read_variables c l d (Some u) k = led_variable c l d k
 
 -- one more line
 run_then : (good : List Bytes) (t : State) (l : Bytes) (u : State) → Run Start good t → Run t (l ∷ []) u → Run Start (good ++ (l ∷ [])) u

@@ -1,5 +1,6 @@
 -- A rule read from its line, and added or refused. Assumes nothing.
-use Rattle.std.proofs.Common.{◌≡◌, ℕ, ◌^◌, ◌<◌, ◌≤◌, true, ◌∷◌, ◌++◌, length, get_or, is_ok, Some, None, Ok, Err, codes, decimal, MatchBool, Result, sym, refl, ap, ◌∙◌, arith, MatchResult}
+use Rattle.std.proofs.Common.{◌≡◌, ℕ, ◌^◌, ◌<◌, ◌≤◌, true, ◌∷◌, ◌++◌, length, get_or, Some, None, Ok, Err, codes, decimal, Bor, MatchOption, Option, Result, sym, refl, ap, ◌∙◌, arith, MatchResult}
+use Rattle.std.specs.Result.{result_ok}
 use Rattle.model.specs.declared.Rule.{Rule}
 use Rattle.model.specs.declared.Rule.TheVariants.{Pair, Block}
 use Rattle.model.specs.declared.RuleRefusal.{RuleRefusal}
@@ -15,11 +16,22 @@ use Rattle.format.specs.Bounds.{Within}
 use Rattle.format.specs.Listing.{rule_line}
 use Rattle.format.proofs.Lines.{rule_within, same_rule_line}
 use Rattle.witness.specs.Answers.{with_rule}
-use Rattle.listing.specs.Lines.{NoRule, Ruled, rule_text}
+use Rattle.listing.specs.Lines.{Lettered, NoRule, Ruled, rule_text}
 
 -- no name of a letter has a space
 pub spaceless : (a : ℕ) → Below 538 a → free 32 (letter_name a) ≡ true
 spaceless a lt = free_letter 32 a (omega arith) (λ z. omega arith) (omega arith)
+
+-- what stands behind the first space
+pub same_rest : (line front back : Bytes) (a : ℕ) (rest : Bytes) → free 32 front ≡ true → line ≡ front ++ 32 ∷ back → a < 538 → line ≡ letter_name a ++ 32 ∷ rest → (front ≡ letter_name a) × (back ≡ rest)
+same_rest line front back a rest h cut lt e = same_cut 32 front (letter_name a) back rest h (spaceless a lt) (sym cut ∙ e)
+
+-- a letter and what is read behind it are read as one
+pub reads_and : {T : Type 0} (good : T → Type 0) (text : T → Bytes) (line : Bytes) (r : Option (ℕ × T)) → Lettered (λ rest o. (p : Bor Bytes) × Reads good text p.now o × (p.now ≡ rest)) line r → Reads (Both (Below 538) good) (joining 32 letter_name text) line r
+reads_and good text line None h = λ p fits e. let second = h p.0 (text p.1) fits.0 e in second.1 p.1 fits.1 second.2
+reads_and good text line (Some p) h =
+    let second = h.3 in
+    ((h.1, second.1.0), h.2 ∙ ap (λ t. letter_name p.0 ++ 32 ∷ t) (sym second.2 ∙ second.1.1))
 
 -- what follows the make in a rule's line
 abbrev make : Rule → Bytes
@@ -38,9 +50,6 @@ make_spaceless : (rule : Rule) → free 32 (make rule) ≡ true
 make_spaceless (Pair a b) = refl
 make_spaceless (Block a n) = refl
 
-pub no_make : (fields : Bytes) → free 32 fields ≡ true → Reads (Within 538 (2 ^ 32)) rule_text fields None
-no_make fields h = λ rule good e. no_cut 32 fields (make rule) (letters rule) h (e ∙ text_is rule)
-
 -- the two parts of a rule's text
 parts : (fields front back : Bytes) (rule : Rule) → free 32 front ≡ true → fields ≡ front ++ 32 ∷ back → fields ≡ rule_text rule → (front ≡ make rule) × (back ≡ letters rule)
 parts fields front back rule h cut e = same_cut 32 front (make rule) back (letters rule) h (make_spaceless rule) (sym cut ∙ e ∙ text_is rule)
@@ -51,20 +60,6 @@ other_make fields front back h cut np nb = λ rule good e. neither rule (parts f
     neither : (rule : Rule) → front ≡ make rule → ⊥
     neither (Pair a b) is = np is
     neither (Block a n) is = nb is
-
-pub no_pair : (fields front back : Bytes) → free 32 front ≡ true → fields ≡ front ++ 32 ∷ back → front ≡ codes "pair" → Reads (Both (Below 538) (Below 538)) (joining 32 letter_name letter_name) back None → Reads (Within 538 (2 ^ 32)) rule_text fields None
-no_pair fields front back h cut is none = λ rule good e. neither rule good (parts fields front back rule h cut e)
-  where
-    neither : (rule : Rule) → Within 538 (2 ^ 32) rule → (front ≡ make rule) × (back ≡ letters rule) → ⊥
-    neither (Pair a b) good p = none (a, b) good p.1
-    neither (Block a n) good p = let z : ◌≡◌ {A = ℕ} 112 98 = ap (λ l. get_or l 0 0) (sym is ∙ p.0) in omega arith
-
-pub no_block : (fields front back : Bytes) → free 32 front ≡ true → fields ≡ front ++ 32 ∷ back → front ≡ codes "block" → Reads (Both (Below 538) (Below (2 ^ 32))) (joining 32 letter_name decimal) back None → Reads (Within 538 (2 ^ 32)) rule_text fields None
-no_block fields front back h cut is none = λ rule good e. neither rule good (parts fields front back rule h cut e)
-  where
-    neither : (rule : Rule) → Within 538 (2 ^ 32) rule → (front ≡ make rule) × (back ≡ letters rule) → ⊥
-    neither (Pair a b) good p = let z : ◌≡◌ {A = ℕ} 98 112 = ap (λ l. get_or l 0 0) (sym is ∙ p.0) in omega arith
-    neither (Block a n) good p = none (a, n) good p.1
 
 -- a rule's line is its letter's name, a space and its text
 line_is : (c : ℕ) (rule : Rule) → rule_line c rule ≡ letter_name c ++ 32 ∷ rule_text rule
@@ -96,7 +91,7 @@ same_made c line p rule r h e =
 pub other_letter : (c : Contents) (line : Bytes) (p : ℕ × Rule) → Reads (Both (Below 538) (Within 538 (2 ^ 32))) (joining 32 letter_name rule_text) line (Some p) → (p.0 ≡ known c.rules → ⊥) → NoRule c line
 other_letter c line p r ne rule h e = ne (same_made c line p rule r h e).0
 
-pub adds : (c d : Contents) (line : Bytes) (p : ℕ × Rule) (r : Result (Unit {0}) RuleRefusal) → Reads (Both (Below 538) (Within 538 (2 ^ 32))) (joining 32 letter_name rule_text) line (Some p) → p.0 ≡ known c.rules → MatchResult r (λ _. (rule_refusal c.rules p.1 ≡ None) × (d ≡ with_rule p.1 c)) (λ e. (rule_refusal c.rules p.1 ≡ Some e) × (d ≡ c)) → MatchBool (is_ok r) (Ruled c line d) (NoRule c line)
+pub adds : (c d : Contents) (line : Bytes) (p : ℕ × Rule) (r : Result (Unit {0}) RuleRefusal) → Reads (Both (Below 538) (Within 538 (2 ^ 32))) (joining 32 letter_name rule_text) line (Some p) → p.0 ≡ known c.rules → MatchResult r (λ _. (rule_refusal c.rules p.1 ≡ None) × (d ≡ with_rule p.1 c)) (λ e. (rule_refusal c.rules p.1 ≡ Some e) × (d ≡ c)) → MatchOption (result_ok r) (NoRule c line) (λ _. Ruled c line d)
 adds c d line p (Ok u) reads is h = record {
   rule = p.1;
   fit = from_fits c.rules p.1 (taken_fits c.rules p.1 h.0);

@@ -1,5 +1,5 @@
 -- What the line of a rule or of a variable is read as. Assumes nothing.
-use Rattle.std.specs.Prelude.{◌≡◌, ℕ, ◌^◌, ◌<◌, true, [], ◌∷◌, codes, decimal, ◌≢◌}
+use Rattle.std.specs.Prelude.{◌≡◌, ℕ, ◌^◌, ◌<◌, true, [], ◌∷◌, ◌++◌, Some, None, codes, decimal, Option, ◌≢◌}
 use Rattle.model.specs.declared.Rule.{Rule}
 use Rattle.model.specs.declared.Rule.TheVariants.{Pair, Block}
 use Rattle.model.specs.Spelling.{known}
@@ -13,6 +13,11 @@ use Rattle.witness.specs.Answers.{with_rule}
 abbrev pub rule_text : Rule → Bytes
 rule_text (Pair a b) = row (codes "pair") (letter_name a ∷ letter_name b ∷ [])
 rule_text (Block a n) = row (codes "block") (letter_name a ∷ decimal n ∷ [])
+
+-- the letter that the line begins with and what is returned of the rest, or no letter with such a rest
+abbrev pub Lettered : {T : Type 0} → (Bytes → Option T → Type 0) → Bytes → Option (ℕ × T) → Type 0
+Lettered returns line None = (a : ℕ) (rest : Bytes) → a < 538 → line ≡ letter_name a ++ 32 ∷ rest → returns rest None
+Lettered returns line (Some p) = (rest : Bytes) × (p.0 < 538) × (line ≡ letter_name p.0 ++ 32 ∷ rest) × returns rest (Some p.1)
 
 -- the line is that of a rule that fits, which is the newest now
 pub record Ruled (c : Contents) (line : Bytes) (d : Contents) : Type 0 where

@@ -1,4 +1,4 @@
-ghost use Rattle.std.specs.Prelude.{MatchBool, MatchOption};
+ghost use Rattle.std.specs.Prelude.{MatchOption};
 ghost use Rattle.format.specs.Steps.{Giving, Stuck};
 ghost use Rattle.witness.specs.Holding.{contents_of};
 ghost use Rattle.listing.specs.Lines.{Fields, Kept, NoFields};
@@ -33,22 +33,14 @@ fn parts_of(line: &[u8]) -> Option<Parts<'_>>
 }
 
 // Adds the variable and the word whose line this is, if they may come next.
-pub(crate) fn read_entry(witness: &mut Witness, line: &[u8]) -> bool
-    ensures { MatchBool result
-        (Kept (contents_of witness.old) line.now (contents_of witness.new))
-        (Stuck (Giving (contents_of witness.old).rules (contents_of witness.old).entries) line.now) }
+pub(crate) fn read_entry(witness: &mut Witness, line: &[u8]) -> Option<()>
+    ensures { MatchOption result
+        (Stuck (Giving (contents_of witness.old).rules (contents_of witness.old).entries) line.now)
+        (λ _. Kept (contents_of witness.old) line.now (contents_of witness.new)) }
 {
-    let Some(parts) = parts_of(line) else {
-        return false;
-    };
-    let Ok(()) = witness.start_word(parts.variable) else {
-        return false;
-    };
-    if !read_word(witness, parts.word) {
-        return false;
-    }
-    match witness.length(parts.variable) {
-        Ok(total) => total == parts.total,
-        Err(_) => false,
-    }
+    let parts = parts_of(line)?;
+    witness.start_word(parts.variable).ok()?;
+    read_word(witness, parts.word)?;
+    let total = witness.length(parts.variable).ok()?;
+    (total == parts.total).then_some(())
 }

@@ -35,35 +35,12 @@ fn read_line(witness: &mut Witness, stage: Stage, line: &[u8]) -> Option<Stage>
 {
     match stage {
         Stage::Opening => {
-            if line == b"letter make first second".as_slice() {
-                Some(Stage::Rules)
-            } else {
-                None
-            }
+            (line == b"letter make first second".as_slice()).then_some(Stage::Rules)
         }
-        Stage::Rules => {
-            if line.is_empty() {
-                Some(Stage::Gap)
-            } else if read_rule(witness, line) {
-                Some(Stage::Rules)
-            } else {
-                None
-            }
-        }
-        Stage::Gap => {
-            if line == b"variable length word".as_slice() {
-                Some(Stage::Variables)
-            } else {
-                None
-            }
-        }
-        Stage::Variables => {
-            if read_entry(witness, line) {
-                Some(Stage::Variables)
-            } else {
-                None
-            }
-        }
+        Stage::Rules if line.is_empty() => Some(Stage::Gap),
+        Stage::Rules => read_rule(witness, line).map(|()| Stage::Rules),
+        Stage::Gap => (line == b"variable length word".as_slice()).then_some(Stage::Variables),
+        Stage::Variables => read_entry(witness, line).map(|()| Stage::Variables),
     }
 }
 
@@ -81,10 +58,7 @@ fn read_lines(witness: &mut Witness, text: &[u8]) -> Result<(), usize>
         let Some((bytes, after)) = take_field(rest, b'\n') else {
             return Err(line);
         };
-        stage = match read_line(witness, stage, bytes) {
-            Some(next) => next,
-            None => return Err(line),
-        };
+        stage = read_line(witness, stage, bytes).ok_or(line)?;
         rest = after;
         line += 1;
     }
@@ -101,8 +75,6 @@ pub fn read(mut witness: Witness, text: &[u8]) -> Result<Witness, ReadRefusal>
         (λ e. (read_number e ≡ 72) × Refuses text.now e) }
 {
     witness.clear();
-    match read_lines(&mut witness, text) {
-        Ok(()) => Ok(witness),
-        Err(line) => Err(ReadRefusal::NotListing { line }),
-    }
+    read_lines(&mut witness, text).map_err(|line| ReadRefusal::NotListing { line })?;
+    Ok(witness)
 }

@@ -1,4 +1,4 @@
-ghost use Rattle.std.specs.Prelude.{◌<◌, length, MatchBool};
+ghost use Rattle.std.specs.Prelude.{◌<◌, length, MatchOption};
 ghost use Rattle.witness.specs.Holding.{contents_of};
 ghost use Rattle.listing.specs.Words.{NotPushed, NotWorded, Pushed, Worded};
 
@@ -6,33 +6,28 @@ use text::{letter, take_field};
 use witness::Witness;
 
 // Adds the letter that the piece names to the newest word, if it may come next.
-fn push_piece(witness: &mut Witness, piece: &[u8]) -> bool
+fn push_piece(witness: &mut Witness, piece: &[u8]) -> Option<()>
     requires { 0 < length (contents_of witness.old).entries }
-    ensures { MatchBool result
-        (Pushed (contents_of witness.old) piece.now (contents_of witness.new))
-        (NotPushed (contents_of witness.old) piece.now) }
+    ensures { MatchOption result
+        (NotPushed (contents_of witness.old) piece.now)
+        (λ _. Pushed (contents_of witness.old) piece.now (contents_of witness.new)) }
 {
-    let Some(a) = letter(piece) else {
-        return false;
-    };
-    witness.push_letter(a).is_ok()
+    witness.push_letter(letter(piece)?).ok()
 }
 
 // Adds the letters of the word that the field is to the newest word, if they may come.
-pub(crate) fn read_word(witness: &mut Witness, field: &[u8]) -> bool
+pub(crate) fn read_word(witness: &mut Witness, field: &[u8]) -> Option<()>
     requires { 0 < length (contents_of witness.old).entries }
-    ensures { MatchBool result
-        (Worded (contents_of witness.old) field.now (contents_of witness.new))
-        (NotWorded (contents_of witness.old) field.now) }
+    ensures { MatchOption result
+        (NotWorded (contents_of witness.old) field.now)
+        (λ _. Worded (contents_of witness.old) field.now (contents_of witness.new)) }
 {
     if field == b"-".as_slice() {
-        return true;
+        return Some(());
     }
     let mut rest = field;
     while let Some((piece, after)) = take_field(rest, b',') {
-        if !push_piece(witness, piece) {
-            return false;
-        }
+        push_piece(witness, piece)?;
         rest = after;
     }
     push_piece(witness, rest)

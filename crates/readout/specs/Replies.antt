@@ -1,5 +1,5 @@
 -- What is replied to a request. Assumes nothing.
-use Rattle.std.specs.Prelude.{◌≡◌, ℕ, ◌+◌, Bool, true, false, cond, ◌⊎◌, ◌++◌, length, take, drop, Some, None, codes, decimal, Option, nat_le, nat_lt}
+use Rattle.std.specs.Prelude.{◌≡◌, ℕ, ◌+◌, true, cond, ◌⊎◌, ◌++◌, length, take, drop, Some, None, Ok, Err, codes, decimal, Option, Result, nat_le, nat_lt}
 use Rattle.model.specs.Spelling.{Word}
 use Rattle.model.specs.Witnesses.{Contents, spelled, valid}
 use Rattle.text.specs.Names.{variable_name}
@@ -20,9 +20,9 @@ refusal_text number line detail = codes "refusal line detail\n" ++ (decimal numb
 abbrev pub refused_line : ReadRefusal → ℕ
 refused_line (NotListing line) = line
 
--- the text, and whether it is what was asked for
+-- the text that was asked for, or the text of a refusal
 abbrev pub Said : Type 0
-Said = Bytes × Bool
+Said = Result Bytes Bytes
 
 -- how a refusal names a variable
 abbrev pub named : ℕ → Bytes
@@ -30,16 +30,16 @@ named x = cond (nat_lt x 26) (variable_name x) (codes "-")
 
 -- of the word that a variable's word spells: so many letters from a place on
 abbrev pub stretch : ℕ → Option Word → ℕ → ℕ → Said
-stretch x None start count = (refusal_text 61 0 (named x), false)
-stretch x (Some w) start count = cond (nat_le (start + count) (length w)) (as_text (take count (drop start w)) ++ codes "\n", true) (refusal_text 62 0 (named x), false)
+stretch x None start count = Err (refusal_text 61 0 (named x))
+stretch x (Some w) start count = cond (nat_le (start + count) (length w)) (Ok (as_text (take count (drop start w)) ++ codes "\n")) (Err (refusal_text 62 0 (named x)))
 
 -- of a listing of these contents
 abbrev pub said : Request → Contents → Said
-said Table c = (table c, true)
+said Table c = Ok (table c)
 said (Stretch x start count) c = stretch x (spelled c x) start count
 
 -- of any input: what the listing says, or the first line that no listing has there
-abbrev pub Replied : Request → Bytes → Bytes → Bool → Type 0
-Replied request input text good =
-    ((c : Contents) × (valid c ≡ true) × (input ≡ listing c) × ((text, good) ≡ said request c))
-    ⊎ ((k : ℕ) × Refused input k × (text ≡ refusal_text 72 k (codes "-")) × (good ≡ false))
+abbrev pub Replied : Request → Bytes → Said → Type 0
+Replied request input reply =
+    ((c : Contents) × (valid c ≡ true) × (input ≡ listing c) × (reply ≡ said request c))
+    ⊎ ((k : ℕ) × Refused input k × (reply ≡ Err (refusal_text 72 k (codes "-"))))

@@ -1,10 +1,9 @@
-ghost use Rattle.std.specs.Prelude.{◌≡◌, ◌<◌, ◌++◌, IfOk, Ok, decimal, OnOk};
+ghost use Rattle.std.specs.Prelude.{◌≡◌, ◌<◌, ◌++◌, IfOk, MatchResult, Ok, Err, OnOk};
 ghost use Rattle.model.specs.Witnesses.{spelled};
 ghost use Rattle.witness.specs.Answers.{length_answer};
 ghost use Rattle.witness.specs.Holding.{contents_of};
-ghost use Rattle.readout.specs.Replies.{refusal_text};
 ghost use Rattle.readout.specs.Rows.{row, shown, table};
-ghost use Rattle.readout.specs.Stretches.{added, unadded};
+ghost use Rattle.readout.specs.Stretches.{letters_answer};
 
 use std::alloc::{AllocError, Global};
 use witness::{Witness, WitnessRefusal};
@@ -12,60 +11,25 @@ use witness::{Witness, WitnessRefusal};
 // How many letters of a word a table shows.
 const SHOWN: u64 = 64;
 
-// Each adds something behind a text.
-fn add_number(heap: Global, out: &mut Vec<u8>, n: u64) -> Result<(), AllocError>
-    ensures { OnOk result (out.new.items ≡ out.old.items ++ decimal n) }
-{
-    let digits = format!(in heap; "{n}")?;
-    out.extend_from_slice(digits.as_bytes())
-}
-
 // So many letters of what a variable's word spells, from a place on; or why they are not to be had.
-pub(crate) fn add_letters(
+pub(crate) fn letters_of(
     heap: Global,
-    out: &mut Vec<u8>,
     witness: &Witness,
     variable: u8,
     start: u64,
     count: usize,
-) -> Result<Option<WitnessRefusal>, AllocError>
-    ensures { IfOk result (λ o.
-        (o ≡ unadded (spelled (contents_of witness.now) variable) start count)
-        × (out.new.items ≡ added (spelled (contents_of witness.now) variable) start count out.old.items)) }
+) -> Result<Result<Vec<u8>, WitnessRefusal>, AllocError>
+    ensures { IfOk result (λ r. MatchResult r
+        (λ letters. letters_answer (spelled (contents_of witness.now) variable) start count ≡ Ok letters.items)
+        (λ e. letters_answer (spelled (contents_of witness.now) variable) start count ≡ Err e)) }
 {
     let mut letters = vec![in heap; 0; count]?;
-    match witness.fill(variable, start, letters.as_mut_slice()) {
-        Ok(()) => {
-            out.extend_from_slice(letters.as_slice())?;
-            Ok(None)
-        }
-        Err(refusal) => Ok(Some(refusal)),
-    }
+    let filled = witness.fill(variable, start, letters.as_mut_slice());
+    Ok(filled.map(|()| letters))
 }
 
-// A refusal by its number, with a line and a detail.
-pub(crate) fn add_refusal(
-    heap: Global,
-    out: &mut Vec<u8>,
-    number: u8,
-    line: usize,
-    detail: &[u8],
-) -> Result<(), AllocError>
-    ensures { OnOk result (out.new.items ≡ out.old.items ++ refusal_text number line detail.now) }
-{
-    out.extend_from_slice(b"refusal line detail\n")?;
-    add_number(heap, out, u64::from(number))?;
-    out.extend_from_slice(b" ")?;
-    add_number(heap, out, line as u64)?;
-    out.extend_from_slice(b" ")?;
-    out.extend_from_slice(detail)?;
-    out.extend_from_slice(b"\n")?;
-    Ok(())
-}
-
-// How the word of a variable begins, which spells so many letters.
+// Adds how the word of a variable begins, which spells so many letters.
 fn add_beginning(
-    heap: Global,
     out: &mut Vec<u8>,
     witness: &Witness,
     variable: u8,
@@ -77,46 +41,37 @@ fn add_beginning(
     if total == 0 {
         return out.extend_from_slice(b"-");
     }
-    add_letters(heap, out, witness, variable, 0, total.min(SHOWN) as usize)?;
+    let heap = *out.allocator();
+    let letters = letters_of(heap, witness, variable, 0, total.min(SHOWN) as usize)?.unwrap();
+    out.extend_from_slice(letters.as_slice())?;
     if total > SHOWN {
         out.extend_from_slice(b"...")?;
     }
     Ok(())
 }
 
-// The row of a variable, if it has a word.
-fn add_row(
-    heap: Global,
-    out: &mut Vec<u8>,
-    witness: &Witness,
-    variable: u8,
-) -> Result<(), AllocError>
+// Adds the row of a variable, if it has a word.
+fn add_row(out: &mut Vec<u8>, witness: &Witness, variable: u8) -> Result<(), AllocError>
     requires { variable < 26 }
     ensures { OnOk result (out.new.items ≡ out.old.items ++ row variable (spelled (contents_of witness.now) variable)) }
 {
-    let total = match witness.length(variable) {
-        Ok(total) => total,
-        Err(_) => return Ok(()),
+    let Ok(total) = witness.length(variable) else {
+        return Ok(());
     };
-    out.extend_from_slice(&[b'A' + variable, b' '])?;
-    add_number(heap, out, total)?;
-    out.extend_from_slice(b" ")?;
-    add_beginning(heap, out, witness, variable, total)?;
-    out.extend_from_slice(b"\n")?;
-    Ok(())
+    let name = char::from(b'A' + variable);
+    let start = format!(in *out.allocator(); "{name} {total} ")?;
+    out.extend_from_slice(start.as_bytes())?;
+    add_beginning(out, witness, variable, total)?;
+    out.extend_from_slice(b"\n")
 }
 
 // The table of all words.
-pub(crate) fn add_table(
-    heap: Global,
-    out: &mut Vec<u8>,
-    witness: &Witness,
-) -> Result<(), AllocError>
-    ensures { OnOk result (out.new.items ≡ out.old.items ++ table (contents_of witness.now)) }
+pub(crate) fn table_of(heap: Global, witness: &Witness) -> Result<Vec<u8>, AllocError>
+    ensures { IfOk result (λ text. text.items ≡ table (contents_of witness.now)) }
 {
-    out.extend_from_slice(b"variable length letters\n")?;
+    let mut out = b"variable length letters\n".to_vec(heap)?;
     for variable in 0..26 {
-        add_row(heap, out, witness, variable)?;
+        add_row(&mut out, witness, variable)?;
     }
-    Ok(())
+    Ok(out)
 }

@@ -1,30 +1,44 @@
-ghost use Rattle.std.specs.Prelude.{◌≡◌, false, [], ◌∷◌, IfOk, codes};
+ghost use Rattle.std.specs.Prelude.{◌≡◌, ◌<◌, [], ◌∷◌, IfOk, MatchResult, Ok, Err, codes};
 ghost use Rattle.listing.specs.Refusals.{read_number};
 ghost use Rattle.model.specs.Witnesses.{spelled};
 ghost use Rattle.witness.specs.Holding.{contents_of};
 ghost use Rattle.readout.specs.Replies.{Replied, named, refusal_text, refused_line, said, stretch};
 
-use crate::adding::{add_letters, add_refusal, add_table};
+use crate::adding::{letters_of, table_of};
 use crate::request::Request;
 use listing::{ReadRefusal, read};
 use std::alloc::{AllocError, Global};
 use witness::Witness;
 
-// A text, and whether it is what was asked for or a refusal.
-#[derive(Drop)]
-pub struct Reply {
-    pub text: Vec<u8>,
-    pub granted: bool,
-}
+// The text that was asked for, or the text of a refusal.
+pub type Reply = Result<Vec<u8>, Vec<u8>>;
 
 // The name of a variable, as a refusal gives it.
-fn name_of(variable: u8) -> u8
+fn name_of(variable: u8) -> char
     ensures { result ∷ [] ≡ named variable }
 {
-    if variable < 26 { b'A' + variable } else { b'-' }
+    if variable < 26 {
+        char::from(b'A' + variable)
+    } else {
+        '-'
+    }
 }
 
-// The text of a stretch of a variable's word with a newline, or of why it is not to be had.
+// The text of a refusal by its number, with a line and a detail.
+fn text_of_refusal(
+    heap: Global,
+    number: u8,
+    line: usize,
+    detail: char,
+) -> Result<Vec<u8>, AllocError>
+    requires { detail < 128 }
+    ensures { IfOk result (λ text. text.items ≡ refusal_text number line (detail ∷ [])) }
+{
+    let text = format!(in heap; "refusal line detail\n{number} {line} {detail}\n")?;
+    Ok(text.into_bytes())
+}
+
+// A stretch of a variable's word with a newline, or why it is not to be had.
 fn stretch_reply(
     heap: Global,
     witness: &Witness,
@@ -32,40 +46,30 @@ fn stretch_reply(
     start: u64,
     count: usize,
 ) -> Result<Reply, AllocError>
-    ensures { IfOk result (λ a. (a.text.items, a.granted) ≡ stretch variable (spelled (contents_of witness.now) variable) start count) }
+    ensures { IfOk result (λ reply. MatchResult reply
+        (λ text. stretch variable (spelled (contents_of witness.now) variable) start count ≡ Ok text.items)
+        (λ text. stretch variable (spelled (contents_of witness.now) variable) start count ≡ Err text.items)) }
 {
-    let mut text = Vec::new(heap);
-    match add_letters(heap, &mut text, witness, variable, start, count)? {
-        None => {
+    match letters_of(heap, witness, variable, start, count)? {
+        Ok(mut text) => {
             text.extend_from_slice(b"\n")?;
-            Ok(Reply {
-                text,
-                granted: true,
-            })
+            Ok(Ok(text))
         }
-        Some(refusal) => {
-            add_refusal(heap, &mut text, refusal.number(), 0, &[name_of(variable)])?;
-            Ok(Reply {
-                text,
-                granted: false,
-            })
+        Err(refusal) => {
+            let text = text_of_refusal(heap, refusal.number(), 0, name_of(variable))?;
+            Ok(Err(text))
         }
     }
 }
 
 // What a witness says to a request.
 fn witness_reply(heap: Global, witness: &Witness, request: Request) -> Result<Reply, AllocError>
-    ensures { IfOk result (λ a. (a.text.items, a.granted) ≡ said request (contents_of witness.now)) }
+    ensures { IfOk result (λ reply. MatchResult reply
+        (λ text. said request (contents_of witness.now) ≡ Ok text.items)
+        (λ text. said request (contents_of witness.now) ≡ Err text.items)) }
 {
     match request {
-        Request::Table => {
-            let mut text = Vec::new(heap);
-            add_table(heap, &mut text, witness)?;
-            Ok(Reply {
-                text,
-                granted: true,
-            })
-        }
+        Request::Table => Ok(Ok(table_of(heap, witness)?)),
         Request::Stretch {
             variable,
             start,
@@ -75,24 +79,21 @@ fn witness_reply(heap: Global, witness: &Witness, request: Request) -> Result<Re
 }
 
 // The text of a refused line.
-fn refused_reply(heap: Global, refusal: ReadRefusal) -> Result<Reply, AllocError>
-    ensures { IfOk result (λ a. (a.text.items ≡ refusal_text (read_number refusal) (refused_line refusal) (codes "-")) × (a.granted ≡ false)) }
+fn text_of_line(heap: Global, refusal: ReadRefusal) -> Result<Vec<u8>, AllocError>
+    ensures { IfOk result (λ text. text.items ≡ refusal_text (read_number refusal) (refused_line refusal) (codes "-")) }
 {
-    let mut text = Vec::new(heap);
     let ReadRefusal::NotListing { line } = refusal;
-    add_refusal(heap, &mut text, refusal.number(), line, b"-")?;
-    Ok(Reply {
-        text,
-        granted: false,
-    })
+    text_of_refusal(heap, refusal.number(), line, '-')
 }
 
 // What a listing says to a request; or the first line that no listing has there.
 pub fn reply_to(heap: Global, request: Request, input: &[u8]) -> Result<Reply, AllocError>
-    ensures { IfOk result (λ a. Replied request input.now a.text.items a.granted) }
+    ensures { IfOk result (λ reply. MatchResult reply
+        (λ text. Replied request input.now (Ok text.items))
+        (λ text. Replied request input.now (Err text.items))) }
 {
     match read(Witness::new(heap)?, input) {
         Ok(witness) => witness_reply(heap, &witness, request),
-        Err(refusal) => refused_reply(heap, refusal),
+        Err(refusal) => Ok(Err(text_of_line(heap, refusal)?)),
     }
 }

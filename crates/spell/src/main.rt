@@ -23,25 +23,20 @@ fn request(words: &[String]) -> Option<Request> {
     }
 }
 
-// Whether the run gave what was asked for.
-fn run(rt: &HostRuntime) -> anyhow::Result<bool> {
+// Prints what is asked for of the listing on standard input, or why there is no such thing.
+fn main(rt: HostRuntime) -> anyhow::Result<ExitCode> {
     let heap = rt.alloc();
-    let words: Vec<String> = env::args(rt)?.skip(1).collect(heap)?;
+    let words: Vec<String> = env::args(&rt)?.skip(1).collect(heap)?;
     let Some(request) = request(words.as_slice()) else {
         rt.eprintln(USAGE)?;
-        return Ok(false);
+        return Ok(ExitCode::FAILURE);
     };
     let mut input = Vec::new(heap);
     rt.stdin().read_to_end(&mut input)?;
-    let reply = reply_to(heap, request, input.as_slice())?;
-    rt.stdout().write_all(reply.text.as_slice())?;
-    Ok(reply.granted)
-}
-
-fn main(rt: HostRuntime) -> anyhow::Result<ExitCode> {
-    if run(&rt)? {
-        Ok(ExitCode::SUCCESS)
-    } else {
-        Ok(ExitCode::FAILURE)
-    }
+    let (status, text) = match reply_to(heap, request, input.as_slice())? {
+        Ok(text) => (ExitCode::SUCCESS, text),
+        Err(text) => (ExitCode::FAILURE, text),
+    };
+    rt.stdout().write_all(text.as_slice())?;
+    Ok(status)
 }

@@ -2,4 +2,3 @@ pub mod Cuts
 pub mod Names
 pub mod Numbers
 pub mod Parts
-pub mod Readers

@@ -1,6 +1,5 @@
 -- A line cut at a place, and a field taken apart by a pattern. Assumes nothing.
 use Rattle.std.proofs.Common.{◌≡◌, ℕ, suc, ◌+◌, ◌-◌, ◌<◌, ◌≤◌, true, [], ◌∷◌, ◌++◌, length, get_or, take, drop, sym, refl, ap, ◌∙◌, arith}
-use native.Mathlib.Nat.{sub-zero}
 use Rattle.std.proofs.lemmas.List.{take_rest, drop_more, take-append-drop, get_or-take, length-take-le}
 use Rattle.std.specs.Int.{IsInRange}
 use Rattle.text.specs.Pieces.{Bytes, free}
@@ -10,15 +9,10 @@ use Rattle.text.proofs.Cuts.{free_cons}
 pub headed : (bs : Bytes) (b : ℕ) → 0 < length bs → get_or bs 0 0 ≡ b → b ∷ take (length bs - 1) (drop 1 bs) ≡ bs
 headed bs b some is = (λ i. sym is i ∷ take_rest bs 1 i) ∙ sym (drop_more bs 0 0 some)
 
--- `[b]`
-pub single : (bs : Bytes) (b : ℕ) → length bs ≡ 1 → get_or bs 0 0 ≡ b → bs ≡ b ∷ []
-single [] b h is = absurd (omega arith)
-single (c ∷ []) b h is = ap (λ x. x ∷ []) is
-single (c ∷ d ∷ ds) b h is = absurd (omega arith)
-
-pub cut_at : (bs : Bytes) (n b : ℕ) → n < length bs → get_or bs n 0 ≡ b → take (n - 0) bs ++ b ∷ take (length bs - (n + 1)) (drop (n + 1) bs) ≡ bs
+-- `bs[..n]`, `bs[n]` and `bs[n + 1..]`
+pub cut_at : (bs : Bytes) (n b : ℕ) → n < length bs → get_or bs n 0 ≡ b → take n bs ++ b ∷ take (length bs - (n + 1)) (drop (n + 1) bs) ≡ bs
 cut_at bs n b lt is =
-    (λ i. take (sub-zero n i) bs ++ sym is i ∷ take_rest bs (n + 1) i)
+    (λ i. take n bs ++ sym is i ∷ take_rest bs (n + 1) i)
     ∙ ap (λ l. take n bs ++ l) (sym (drop_more bs n 0 lt))
     ∙ take-append-drop n bs
 
@@ -26,18 +20,13 @@ pub free_from : (b : ℕ) (bs : Bytes) → ((k : ℕ) → k < length bs → get_
 free_from b [] h = refl
 free_from b (c ∷ cs) h = free_cons b c cs (λ e. h 0 (omega arith) e) (free_from b cs (λ k lt e. h (suc k) (omega arith) e))
 
-pub free_front : (bs : Bytes) (n b : ℕ) → n ≤ length bs → ((k : ℕ) → k < n → get_or bs k 0 ≡ b → ⊥) → free b (take (n - 0) bs) ≡ true
+pub free_front : (bs : Bytes) (n b : ℕ) → n ≤ length bs → ((k : ℕ) → k < n → get_or bs k 0 ≡ b → ⊥) → free b (take n bs) ≡ true
 free_front bs n b le before =
-    free_from b (take (n - 0) bs) (λ k lt is.
-    let long : length (take (n - 0) bs) ≡ n = ap (λ m. length (take m bs)) (sub-zero n) ∙ length-take-le n bs le in
-    let under : k < n = omega arith in
-    before k under (sym (get_or-take n bs k 0 under) ∙ ap (λ m. get_or (take m bs) k 0) (sym (sub-zero n)) ∙ is))
+    free_from b (take n bs) (λ k lt is.
+    let under : k < n = omega (arith, length-take-le n bs le) in
+    before k under (sym (get_or-take n bs k 0 under) ∙ is))
 
--- only some bytes begin with # or a digit
-pub mark_some : (bs : Bytes) → get_or bs 0 0 ≡ 35 → 0 < length bs
-mark_some [] e = absurd (omega arith)
-mark_some (c ∷ cs) e = omega arith
-
+-- only some bytes begin with a digit
 pub digit_some : (bs : Bytes) → IsInRange 48 57 (get_or bs 0 0) → 0 < length bs
 digit_some [] d = absurd (omega arith)
 digit_some (c ∷ cs) d = omega arith

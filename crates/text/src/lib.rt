@@ -2,7 +2,7 @@
 
 #![tactic(auto)]
 
-ghost use Rattle.std.specs.Prelude.{◌≡◌, ℕ, ◌^◌, ◌<◌, ◌≤◌, true, ◌∷◌, ◌++◌, length, decimal, MatchOption, ◌≢◌, slice_index};
+ghost use Rattle.std.specs.Prelude.{◌≡◌, ◌+◌, ◌^◌, true, [], ◌∷◌, ◌++◌, decimal, MatchOption};
 ghost use Rattle.text.specs.Digits.{Shaped, value_on};
 ghost use Rattle.text.specs.Names.{letter_name, variable_name};
 ghost use Rattle.text.specs.Pieces.{free};
@@ -20,32 +20,14 @@ pub enum Token<'a> {
     LetterName(&'a [u8]),
 }
 
-// Where the byte `end` first stands, or the length.
-fn place_of(line: &[u8], end: u8) -> usize
-    ensures within { result ≤ length line.now }
-    ensures before { (k : ℕ) → k < result → slice_index line.now k ≢ end }
-    ensures found { result < length line.now → slice_index line.now result ≡ end }
-{
-    for (i, b) in line.iter().enumerate() {
-        if *b == end {
-            return i;
-        }
-    }
-    line.len()
-}
-
 // What stands before the first `end` and after it, if there is one.
 pub fn take_field(line: &[u8], end: u8) -> Option<(&[u8], &[u8])>
     ensures { MatchOption result
         (free end line.now ≡ true)
         (λ p. (free end p.0.now ≡ true) × (line.now ≡ p.0.now ++ end ∷ p.1.now)) }
 {
-    let at = place_of(line, end);
-    if at < line.len() {
-        Some((&line[0..at], &line[at + 1..]))
-    } else {
-        None
-    }
+    let at = line.iter().position(|b| *b == end)?;
+    Some((&line[..at], &line[at + 1..]))
 }
 
 // The token that a field is.
@@ -61,13 +43,9 @@ pub fn token_of(field: &[u8]) -> Token<'_>
 
 // The number that digits write, at most sixteen and with no zero in front of others.
 fn value_of(digits: &[u8]) -> Option<u64>
-    requires { 0 < length digits.now }
     ensures { MatchOption result (Shaped digits.now → ⊥) (λ n. Shaped digits.now × (n ≡ value_on 0 digits.now)) }
 {
-    if digits.len() > 16 {
-        return None;
-    }
-    if digits[0] == b'0' && digits.len() > 1 {
+    if digits.len() > 16 || matches!(digits, [b'0', _, ..]) {
         return None;
     }
     let mut n: u64 = 0;
@@ -90,32 +68,29 @@ pub fn number(field: &[u8]) -> Option<u64>
     }
 }
 
+// How far behind `first` the only byte of a field stands, if that is below 26.
+fn alphabet_place(field: &[u8], first: u8) -> Option<u8>
+    ensures { Reads (Below 26) (λ place. (first + place) ∷ []) field.now result }
+{
+    let [byte] = field else {
+        return None;
+    };
+    byte.checked_sub(first).filter(|place| *place < 26)
+}
+
 // The letter a to z that a field without # names.
 fn basic(field: &[u8]) -> Option<u16>
     ensures { Reads (Below 26) letter_name field.now result }
 {
-    match field {
-        [b] => match *b {
-            b'a'..=b'z' => Some(u16::from(*b - b'a')),
-            _ => None,
-        },
-        _ => None,
-    }
+    alphabet_place(field, b'a').map(u16::from)
 }
 
 // The made letter that the digits after a # name.
 fn made(digits: &[u8]) -> Option<u16>
     ensures { Reads (Below 538) letter_name (35 ∷ digits.now) result }
 {
-    match number(digits) {
-        Some(n) => {
-            if n < 26 || n >= 538 {
-                return None;
-            }
-            Some(n as u16)
-        }
-        None => None,
-    }
+    let a = u16::try_from(number(digits)?).ok()?;
+    (26..538).contains(&a).then_some(a)
 }
 
 // The letter below 538 whose name the field is.
@@ -133,11 +108,5 @@ pub fn letter(field: &[u8]) -> Option<u16>
 pub fn variable(field: &[u8]) -> Option<u8>
     ensures { Reads (Below 26) variable_name field.now result }
 {
-    match field {
-        [b] => match *b {
-            b'A'..=b'Z' => Some(*b - b'A'),
-            _ => None,
-        },
-        _ => None,
-    }
+    alphabet_place(field, b'A')
 }

@@ -12,9 +12,6 @@ use Rattle.text.proofs.number.Goals as goal
 some : (digits field : Bytes) → (digits ≡ field) × IsInRange 48 57 (get_or field 0 0) → 0 < length digits
 some digits field h = omega (arith, digit_some field h.1, ap length h.0)
 
-pub value_of-requires : goal.value_of-requires
-value_of-requires c = some _ _ c.in-Number.ensures
-
 pub returns-in-Number : goal.returns-in-Number
 returns-in-Number c =
     let r = c.value_of.result in

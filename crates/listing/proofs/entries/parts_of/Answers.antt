@@ -1,8 +1,5 @@
-use Rattle.listing.proofs.EntryLines.{no_name, no_number, bad_name, bad_number}
+use Rattle.listing.proofs.EntryLines.{no_number, bad_name, bad_number}
 use Rattle.listing.proofs.entries.parts_of.Goals as goal
-
-pub returns-in_err-name : goal.returns-in_err-name
-returns-in_err-name c = rw c.from_residual.ensures (no_name c.args.line.now c.in_err-name.ensures)
 
 pub returns-in_err-digits : goal.returns-in_err-digits
 returns-in_err-digits c =

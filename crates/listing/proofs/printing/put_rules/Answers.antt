@@ -1,10 +1,8 @@
-use Rattle.std.proofs.Common.{◌+◌, [], ◌∷◌, ◌++◌, reverse, length, get_or, sym, ap, ◌∙◌, subst, arith, length-append}
-use Rattle.std.proofs.lemmas.List.{take_all}
+use Rattle.std.proofs.Common.{◌+◌, [], ◌∷◌, ◌++◌, length, get_or, sym, ap, ◌∙◌, subst, arith, length-append}
 use Rattle.model.specs.declared.Rule.TheVariants.{Pair}
 use Rattle.model.specs.Buffers.{Put}
-use Rattle.model.proofs.Buffers.{put_none, put_then}
-use Rattle.text.specs.Pieces.{lines_text}
-use Rattle.format.specs.Listing.{rule_line, rule_lines}
+use Rattle.model.proofs.Buffers.{put_then}
+use Rattle.format.specs.Listing.{rule_line}
 use Rattle.listing.proofs.Texts.{front, front_more, front_room}
 use Rattle.listing.proofs.printing.put_rules.Goals as goal
 
@@ -16,14 +14,7 @@ put_rule-end-requires c =
     let more = ap length (front_more rules i (Pair 0 0) c.loop-i-test.true) ∙ length-append (front rules i) (line ++ 10 ∷ []) in
     omega (arith, more, length-append line (10 ∷ []), front_room rules (i + 1), c.loop-i.invariant.behind, c.requires.1)
 
-pub loop-i-init : goal.loop-i-init
-loop-i-init c = put_none c.args.out.now c.args.at
-
 pub loop-i-preserved : goal.loop-i-preserved
 loop-i-preserved c =
     subst (λ bs. Put c.args.out.now c.args.at bs c.put_rule-end.new.out c.put_rule-end.result) (sym (front_more c.args.rules.now c.loop-i.i (Pair 0 0) c.loop-i-test.true))
     (put_then c.loop-i.invariant c.put_rule-end.ensures)
-
-pub returns : goal.returns
-returns c =
-    subst (λ l. Put c.args.out.now c.args.at (lines_text (rule_lines (reverse l))) c.loop-i.out c.loop-i.end) (take_all c.loop-i.i c.args.rules.now (omega arith)) c.loop-i.invariant

@@ -15,11 +15,6 @@ parts w some = word_after (get_or w 0 0) (take (length w - 1) (drop 1 w)) ∙ ap
 room : (w : Word) → 0 < length w → length (word_text w) ≡ length (letter_name (get_or w 0 0)) + length (names_after (take (length w - 1) (drop 1 w)))
 room w some = ap length (sym (parts w some)) ∙ length-append (letter_name (get_or w 0 0)) (names_after (take (length w - 1) (drop 1 w)))
 
-pub put_letter-end-requires : goal.put_letter-end-requires
-put_letter-end-requires c =
-    let some : 0 < length c.args.word.now = search rules in
-    omega (arith, c.requires, room c.args.word.now some)
-
 pub put_more-requires : goal.put_more-requires
 put_more-requires c =
     let some : 0 < length c.args.word.now = search rules in

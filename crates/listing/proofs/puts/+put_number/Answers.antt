@@ -24,11 +24,6 @@ put_number-last-requires t c = (search rules, omega (arith, c.requires, longer c
 pub bounds-out-last : goal.bounds-out-last
 bounds-out-last t c = omega (arith, c.requires, c.put_number-last.ensures.behind, c.put_number-last.auto.out, longer c.args.n c.if-n-lt10.false (omega arith))
 
-pub overflow_add-result-2 : goal.overflow_add-result-2
-overflow_add-result-2 t c =
-    let l : c.put_number-last.result + 1 ≤ length c.args.out.now = omega (arith, c.requires, c.put_number-last.ensures.behind, longer c.args.n c.if-n-lt10.false (omega arith)) in
-    search rules
-
 pub returns : goal.returns
 returns t c =
     let l : c.put_number-last.result < length c.put_number-last.new.out = omega (arith, c.requires, c.put_number-last.ensures.behind, c.put_number-last.auto.out, longer c.args.n c.if-n-lt10.false (omega arith)) in

@@ -1,4 +1,6 @@
-use Rattle.std.proofs.Common.{◌<◌, ◌≤◌, [], length, subst, arith, rules}
+use Rattle.std.proofs.Common.{◌≡◌, ◌<◌, ◌≤◌, [], length, Some, None, subst, arith, rules}
+use Rattle.std.proofs.lemmas.Option.{MatchOption-at_some, MatchOption-at_none}
+use Rattle.std.proofs.lemmas.Result.{err_from_is_err_and}
 use Rattle.witness.specs.Holding.{contents_of}
 use Rattle.listing.specs.Stages.{Passed, state_of}
 use Rattle.listing.proofs.Passing.{passed_all, passed_more, passed_le, shorter, refused_line, refused_cut, refused_early, whole}
@@ -9,10 +11,13 @@ returns-in_default c =
     let some : 0 < length c.loop-rest.rest.now = search rules in
     refused_cut c.args.text.now c.loop-rest.line (state_of c.loop-rest.stage (contents_of c.loop-rest.witness)) c.loop-rest.rest.now c.loop-rest.invariant.0 c.in_default.ensures some
 
-pub returns-in-None : goal.returns-in-None
-returns-in-None c =
+pub returns-in_err-stage : goal.returns-in_err-stage
+returns-in_err-stage c =
     let cut = c.in-Some.ensures in
-    refused_line c.args.text.now c.loop-rest.line (state_of c.loop-rest.stage (contents_of c.loop-rest.witness)) c.loop-rest.rest.now c.in-Some.bytes.now c.in-Some.after.now c.loop-rest.invariant.0 cut.0 cut.1 c.in-None.ensures
+    let none : c.read_line.result ≡ None = grind arith in
+    let why : c.in_err-stage.field-0.0 ≡ c.loop-rest.line = grind arith in
+    let p = err_from_is_err_and c.from_residual.result c.from_residual.ensures.1 in
+    rw (p.1, p.2, why) (refused_line c.args.text.now c.loop-rest.line (state_of c.loop-rest.stage (contents_of c.loop-rest.witness)) c.loop-rest.rest.now c.in-Some.bytes.now c.in-Some.after.now c.loop-rest.invariant.0 cut.0 cut.1 (MatchOption-at_none _ _ none c.read_line.ensures))
 
 pub overflow_add-line : goal.overflow_add-line
 overflow_add-line c =
@@ -21,13 +26,11 @@ overflow_add-line c =
     let fits : c.loop-rest.line ≤ length c.args.text.now = omega arith in
     search rules
 
-pub loop-rest-smaller : goal.loop-rest-smaller
-loop-rest-smaller c = shorter c.loop-rest.rest.now c.in-Some.bytes.now c.in-Some.after.now c.in-Some.ensures.1
-
 pub loop-rest-preserved : goal.loop-rest-preserved
 loop-rest-preserved c =
-    let led = c.in-Some-read_line.ensures in
-    (passed_more c.args.text.now c.loop-rest.line (state_of c.loop-rest.stage (contents_of c.loop-rest.witness)) c.loop-rest.rest.now c.in-Some.bytes.now c.in-Some.after.now (state_of c.in-Some-read_line.next (contents_of c.read_line.new.witness)) c.loop-rest.invariant.0 c.in-Some.ensures.1 led.run, led.even)
+    let some : c.read_line.result ≡ Some c.in_ok-stage.stage = grind arith in
+    let led = MatchOption-at_some _ _ _ some c.read_line.ensures in
+    (passed_more c.args.text.now c.loop-rest.line (state_of c.loop-rest.stage (contents_of c.loop-rest.witness)) c.loop-rest.rest.now c.in-Some.bytes.now c.in-Some.after.now (state_of c.in_ok-stage.stage (contents_of c.read_line.new.witness)) c.loop-rest.invariant.0 c.in-Some.ensures.1 led.run, led.even)
 
 pub returns-in-Variables : goal.returns-in-Variables
 returns-in-Variables c =

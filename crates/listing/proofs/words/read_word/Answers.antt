@@ -1,38 +1,21 @@
-use Rattle.std.proofs.Common.{◌≡◌, [], ◌∷◌, length, sym, ap, ◌∙◌, arith, length-append}
+use Rattle.std.proofs.Common.{sym, ◌∙◌}
 use Rattle.std.proofs.lemmas.Slice.Eq.{slice_eq-Decides}
 use Rattle.std.proofs.lemmas.Bool.{true≢false}
 use Rattle.witness.specs.Holding.{contents_of}
 use Rattle.listing.proofs.Holding.{known_few}
-use Rattle.listing.proofs.Letters.{none_new, midway_none, midway_some, midway_more, no_word_piece, word_last}
+use Rattle.listing.proofs.Letters.{midway_more, no_word_piece, word_last}
 use Rattle.listing.proofs.words.read_word.Goals as goal
 use Rattle.std.proofs.lemmas.Bool.Decides.{Decides-eqb}
 
-pub returns-then-eq : goal.returns-then-eq
-returns-then-eq c =
-    let is : c.args.field.now ≡ 45 ∷ [] = (slice_eq-Decides Decides-eqb _ _ _ c.eq.ensures).0 c.if-eq.true ∙ c.as_slice.ensures in
-    record { w = []; is = is; new = none_new (contents_of c.args.witness.now) }
-
-pub loop-piece-init : goal.loop-piece-init
-loop-piece-init c = midway_none (contents_of c.args.witness.now) c.args.field.now
-
-pub push_piece-requires : goal.push_piece-requires
-push_piece-requires c = midway_some (contents_of c.args.witness.now) c.args.field.now (contents_of c.loop-piece.witness) c.loop-piece.rest.now c.loop-piece.invariant c.requires
-
-pub returns-then-not-push_piece : goal.returns-then-not-push_piece
-returns-then-not-push_piece c =
+pub returns-in_err-push_piece : goal.returns-in_err-push_piece
+returns-in_err-push_piece c =
     let cut = c.in-Some.ensures in
-    no_word_piece (contents_of c.args.witness.now) c.args.field.now (contents_of c.loop-piece.witness) c.loop-piece.rest.now c.in-Some.piece.now c.in-Some.after.now (known_few c.args.witness.now)
-    (λ is. true≢false (sym ((slice_eq-Decides Decides-eqb _ _ _ c.eq.ensures).1 (is ∙ sym c.as_slice.ensures)) ∙ c.if-eq.false)) c.loop-piece.invariant cut.0 cut.1 c.if-not-push_piece.ensures
-
-pub loop-piece-smaller : goal.loop-piece-smaller
-loop-piece-smaller c = omega (arith, ap length c.in-Some.ensures.1, length-append c.in-Some.piece.now (44 ∷ c.in-Some.after.now))
+    rw c.from_residual.ensures (no_word_piece (contents_of c.args.witness.now) c.args.field.now (contents_of c.loop-piece.witness) c.loop-piece.rest.now c.in-Some.piece.now c.in-Some.after.now (known_few c.args.witness.now)
+    (λ is. true≢false (sym ((slice_eq-Decides Decides-eqb _ _ _ c.eq.ensures).1 (is ∙ sym c.as_slice.ensures)) ∙ c.if-eq.false)) c.loop-piece.invariant cut.0 cut.1 c.in_err-push_piece.ensures)
 
 pub loop-piece-preserved : goal.loop-piece-preserved
 loop-piece-preserved c =
-    midway_more (contents_of c.args.witness.now) c.args.field.now (contents_of c.loop-piece.witness) c.loop-piece.rest.now c.in-Some.piece.now c.in-Some.after.now (contents_of c.push_piece.new.witness) c.loop-piece.invariant c.in-Some.ensures.1 c.if-not-push_piece.ensures
-
-pub push_piece-requires-2 : goal.push_piece-requires-2
-push_piece-requires-2 c = midway_some (contents_of c.args.witness.now) c.args.field.now (contents_of c.loop-piece.witness) c.loop-piece.rest.now c.loop-piece.invariant c.requires
+    midway_more (contents_of c.args.witness.now) c.args.field.now (contents_of c.loop-piece.witness) c.loop-piece.rest.now c.in-Some.piece.now c.in-Some.after.now (contents_of c.push_piece.new.witness) c.loop-piece.invariant c.in-Some.ensures.1 c.in_ok-push_piece.ensures
 
 pub returns : goal.returns
 returns c =

@@ -1,13 +1,15 @@
-use Rattle.std.proofs.Common.{sym}
+use Rattle.std.proofs.Common.{sym, arith}
+use Rattle.std.proofs.lemmas.Grind.{common_steps}
+use Rattle.std.proofs.lemmas.Result.{MatchResult-at_ok}
+use Rattle.std.proofs.lemmas.Bool.Decides.{nat_tests}
 use Rattle.model.specs.Witnesses.{spelled}
 use Rattle.witness.specs.Holding.{contents_of}
-use Rattle.readout.proofs.Added.{shown_long, shown_short}
+use Rattle.readout.proofs.Added.{shown_told}
 use Rattle.readout.proofs.adding.add_beginning.Goals as goal
 
-pub returns-in_ok-extend_from_slice : goal.returns-in_ok-extend_from_slice
-returns-in_ok-extend_from_slice c =
-    shown_long (spelled (contents_of c.args.witness.now) c.args.variable) c.args.total c.min.result c.args.out.now.items c.add_letters.new.out.items _ (sym c.requires) c.min.ensures c.if-total-gt-SHOWN.true c.in_ok-add_letters.ensures.1 c.in_ok-extend_from_slice.ensures.items
-
-pub returns-else-total-gt-SHOWN : goal.returns-else-total-gt-SHOWN
-returns-else-total-gt-SHOWN c =
-    shown_short (spelled (contents_of c.args.witness.now) c.args.variable) c.args.total c.min.result c.args.out.now.items c.add_letters.new.out.items (sym c.requires) c.min.ensures c.if-total-eq0.false c.if-total-gt-SHOWN.false c.in_ok-add_letters.ensures.1
+pub returns : goal.returns
+returns c =
+    let letters = MatchResult-at_ok _ _ _ c.unwrap-letters.ensures c.in_ok-letters_of.ensures in
+    let told = shown_told (spelled (contents_of c.args.witness.now) c.args.variable) c.args.total c.min.result _ (sym c.requires) c.min.ensures c.if-total-eq0.false letters in
+    let items = c.as_slice.ensures.value in
+    grind (arith, common_steps, nat_tests, told)
