@@ -33,10 +33,11 @@ table_from f d (suc n) k (v ∷ t) le is =
 module _ {V : Type 0} (m : Meaning V) (S : Standing) where
   module _ (table new : List V) (stored : List Rule) (is : reverse stored ≡ S.rules) (room : fresh S ≤ length table) (fill : fillable (reverse stored) (length table) ≡ true → Filled m.letter m.empty m.join (reverse stored) new) where
     -- rules that fit fill a table with room for every known letter
+    pub can_fill : rules_fit S.rules ≡ true → fillable (reverse stored) (length table) ≡ true
+    can_fill fit = sym (fillable_room stored (length table) (omega (arith, length-reverse stored, ap length is))) ∙ fit_in_turn (reverse stored) (ap rules_fit is ∙ fit)
+
     pub is_filled : rules_fit S.rules ≡ true → Filled m.letter m.empty m.join S.rules new
-    is_filled fit =
-        let can : fillable (reverse stored) (length table) ≡ true = sym (fillable_room stored (length table) (omega (arith, length-reverse stored, ap length is))) ∙ fit_in_turn (reverse stored) (ap rules_fit is ∙ fit) in
-        subst (λ rules. Filled m.letter m.empty m.join rules new) is (fill can)
+    is_filled fit = subst (λ rules. Filled m.letter m.empty m.join rules new) is (fill (can_fill fit))
 
     -- and where the rest is untouched, the table is known
     pub filled_is : rules_fit S.rules ≡ true → length new ≡ length table → drop (26 + length stored) new ≡ drop (26 + length stored) table → new ≡ filled_table m S table

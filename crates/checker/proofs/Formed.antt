@@ -1,5 +1,5 @@
 -- What a run gives of what stands, as tests that come out true. Assumes nothing.
-use Rattle.std.proofs.Common.{◌≡◌, ℕ, zero, suc, ◌<◌, ◌≤◌, Bool, true, false, cond, ltb, ◌⊎◌, List, [], ◌∷◌, get_or, sym, refl, ap, ◌∙◌, inl, inr, ⊎_elim, arith}
+use Rattle.std.proofs.Common.{◌≡◌, ℕ, ◌<◌, ◌≤◌, Bool, true, false, ltb, ◌⊎◌, List, [], ◌∷◌, get_or, sym, ◌∙◌, inl, inr, ⊎_elim, arith}
 use mathlib.Core.Logic.{∥∥₁_elim}
 use mathlib.Core.Bool.{Bool-set}
 use Rattle.std.specs.List.{AllByRecursion}
@@ -14,10 +14,9 @@ use Rattle.systems.specs.Standings.{Standing, fresh, live, popped_word}
 use Rattle.systems.proofs.Forming.{opened_formed, runs_are_well_formed}
 use Rattle.systems.proofs.Whole.{popped_below}
 use Rattle.writing.proofs.Limited.{live_low}
-use Rattle.guarantee.specs.Closing.{entries, entry}
+use Rattle.guarantee.specs.Closing.{entries}
 use Rattle.guarantee.proofs.Witnesses.{below_all, witness_valid}
 use Rattle.checker.specs.Holding.{marked}
-use Rattle.checker.specs.Popped.{made_and_popped, popped_entries}
 use Rattle.checker.specs.Running.{SomeRun}
 
 -- what is so of all that is well formed, if it can be tested, is so where some run led
@@ -37,17 +36,8 @@ pub each_known : (S : Standing) (flags : List Bool) → SomeRun S flags → (x :
 each_known S flags some x = below_each (fresh S) (popped_word S x) (tested S flags (all_below (fresh S) (popped_word S x)) some (λ formed. below_all (fresh S) (popped_word S x) (popped_below S formed x)))
 
 -- the words fit behind one another
-same_entries : (system : ℕ → Bool) (S : Standing) (n : ℕ) → entries system (made_and_popped [] S.pops) n ≡ entries system S n
-same_entries system S zero = refl
-same_entries system S (suc n) = ap (λ es. cond (system n) (entry S n ∷ es) es) (same_entries system S n)
-
-pub popped_are : (system : ℕ → Bool) (S : Standing) → popped_entries system S.pops ≡ entries system S 26
-unfolding popped_entries
-popped_are system S = same_entries system S 26
-
-pub words_fit : (S : Standing) (flags : List Bool) → SomeRun S flags → (system : ℕ → Bool) → entries_fit S.rules (popped_entries system S.pops) ≡ true
+pub words_fit : (S : Standing) (flags : List Bool) → SomeRun S flags → (system : ℕ → Bool) → entries_fit S.rules (entries system S 26) ≡ true
 words_fit S flags some system =
-    ap (entries_fit S.rules) (popped_are system S) ∙
     tested S flags (entries_fit S.rules (entries system S 26)) some (λ formed. (and_parts (rules_fit S.rules) (entries_fit S.rules (entries system S 26)) (witness_valid system S formed)).1)
 
 -- the variables of the system, as a function

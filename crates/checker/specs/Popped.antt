@@ -1,27 +1,13 @@
 -- The words that were popped, and a witness that gets them. Assumes nothing.
-use Rattle.std.specs.Prelude.{ℕ, Bool, List, [], ◌∷◌, ◌++◌}
-use Rattle.model.specs.declared.Rule.{Rule}
+use Rattle.std.specs.Prelude.{ℕ, List, [], ◌∷◌, ◌++◌}
 use Rattle.model.specs.Spelling.{Word}
 use Rattle.model.specs.Witnesses.{Contents, Entry}
 use Rattle.systems.specs.declared.Pop.{Pop}
-use Rattle.systems.specs.Standings.{Standing, popped_word}
-use Rattle.guarantee.specs.Closing.{entries}
+use Rattle.systems.specs.Standings.{popped_word}
 
--- these rules and pops, and no equation
-abbrev pub made_and_popped : List Rule → List Pop → Standing
-made_and_popped rules pops = record { equations = []; rules = rules; pops = pops }
-
--- the word of x that was popped: the letters popped left in order, then those popped right in reverse
+-- the word of x that these pops took: the letters popped left in order, then those popped right in reverse
 abbrev pub word_from : List Pop → ℕ → Word
-word_from pops x = popped_word (made_and_popped [] pops) x
-
--- x with this word
-abbrev pub popped_entry : List Pop → ℕ → Entry
-popped_entry pops x = record { variable = x; word = word_from pops x }
-
--- such an entry for each variable of the system, the last first
-unfoldable pub popped_entries : (ℕ → Bool) → List Pop → List Entry
-popped_entries system pops = entries system (made_and_popped [] pops) 26
+word_from pops x = popped_word (record { equations = []; rules = []; pops = pops }) x
 
 -- the newest word with these letters too
 abbrev pub lengthened_by : Word → List Entry → List Entry

@@ -4,6 +4,7 @@
 
 mod choosing;
 mod closing;
+mod ending;
 mod loading;
 mod output;
 mod popped;

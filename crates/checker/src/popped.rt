@@ -1,20 +1,27 @@
-// The words that were popped, letter by letter, into a buffer.
-ghost use Rattle.std.specs.Prelude.{◌≡◌, ◌+◌, ◌≤◌, reverse, length, take};
-ghost use Rattle.std.specs.List.{flat_map};
+// The words that were popped.
+ghost use Rattle.std.specs.Prelude.{◌≡◌, ◌+◌, ◌≤◌, ◌++◌, length};
 ghost use Rattle.std.specs.Option.{option_to_list};
-ghost use Rattle.model.specs.Buffers.{Put};
-ghost use Rattle.systems.specs.Standings.{left_of, right_of};
+ghost use Rattle.systems.specs.Standings.{left_of, popped_word, right_of};
+ghost use Rattle.checker.specs.Holding.{standing};
 ghost use Rattle.checker.specs.Popped.{word_from};
 
+use crate::store::Check;
+use arrayvec::ArrayVec;
 use systems::Pop;
 
-// The letter that this pop took at the left of x.
+// No word has more letters.
+const MOST_POPS: usize = 1_024;
+
+// The letters of a word.
+type Letters = ArrayVec<u16, MOST_POPS>;
+
+// The letter that this pop took at the left of x. (A function for either side, since a pattern is no value that a call could pass on.)
 fn at_left(pop: Pop, x: u8) -> Option<u16>
     ensures { option_to_list result ≡ left_of x pop }
 {
     match pop {
-        Pop::AtLeft(y, a) => if y == x { Some(a) } else { None },
-        Pop::AtRight(_, _) => None,
+        Pop::AtLeft(y, a) if y == x => Some(a),
+        _ => None,
     }
 }
 
@@ -23,57 +30,41 @@ fn at_right(pop: Pop, x: u8) -> Option<u16>
     ensures { option_to_list result ≡ right_of x pop }
 {
     match pop {
-        Pop::AtLeft(_, _) => None,
-        Pop::AtRight(y, a) => if y == x { Some(a) } else { None },
+        Pop::AtRight(y, a) if y == x => Some(a),
+        _ => None,
     }
 }
 
-// Writes a letter, if there is one, and answers the place behind it.
-fn put(out: &mut [u16], at: usize, letter: Option<u16>) -> usize
-    requires { at + length (option_to_list letter) ≤ length out.old }
-    ensures { Put out.old at (option_to_list letter) out.new result }
+// Adds a letter, if there is one.
+fn add(letters: &mut Letters, letter: Option<u16>)
+    requires { length letters.old.items + length (option_to_list letter) ≤ 1024 }
+    ensures { letters.new.items ≡ letters.old.items ++ option_to_list letter }
 {
-    match letter {
-        Some(a) => {
-            out[at] = a;
-            at + 1
-        }
-        None => at,
+    if let Some(a) = letter {
+        letters.push(a);
     }
 }
 
-// Writes the letters popped at the left of x, in order.
-fn put_lefts(out: &mut [u16], pops: &[Pop], x: u8) -> usize
-    requires { length (flat_map (left_of x) pops.now) ≤ length out.old }
-    ensures { Put out.old 0 (flat_map (left_of x) pops.now) out.new result }
+// The letters popped at the left of x in order, and behind them those popped at its right, the last first.
+fn word_of(pops: &[Pop], x: u8) -> Letters
+    requires { length pops.now ≤ 1024 }
+    ensures { result.items ≡ word_from pops.now x }
 {
-    let mut at = 0;
+    let mut letters = Letters::new();
     for pop in pops {
-        at = put(out, at, at_left(*pop, x));
+        add(&mut letters, at_left(*pop, x));
     }
-    at
+    for pop in pops.iter().rev() {
+        add(&mut letters, at_right(*pop, x));
+    }
+    letters
 }
 
-// Writes the letters popped at the right of x, the last first, from a place on.
-fn put_rights(out: &mut [u16], start: usize, pops: &[Pop], x: u8) -> usize
-    requires { start + length (flat_map (right_of x) pops.now) ≤ length out.old }
-    ensures { Put out.old start (reverse (flat_map (right_of x) pops.now)) out.new result }
-{
-    let mut at = start;
-    let mut i = pops.len();
-    while i > 0 {
-        i -= 1;
-        at = put(out, at, at_right(pops[i], x));
+impl Check {
+    // The word of x that was popped.
+    pub(crate) fn word(&self, x: u8) -> Letters
+        ensures { result.items ≡ popped_word (standing self.now) x }
+    {
+        word_of(self.stand.pops(), x)
     }
-    at
-}
-
-// Writes the word of x that was popped to the front of the buffer, and answers its length.
-pub(crate) fn put_word(out: &mut [u16], pops: &[Pop], x: u8) -> usize
-    requires { length pops.now ≤ length out.old }
-    ensures word { take result out.new ≡ word_from pops.now x }
-    ensures bound { result ≤ length out.new }
-{
-    let at = put_lefts(out, pops, x);
-    put_rights(out, at, pops, x)
 }

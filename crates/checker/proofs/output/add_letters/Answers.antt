@@ -2,8 +2,14 @@ use Rattle.std.proofs.Common.{ap, ◌∙◌}
 use Rattle.std.proofs.lemmas.List.{take_all}
 use Rattle.witness.specs.Holding.{contents_of}
 use Rattle.checker.specs.Popped.{lengthened_by, with_entries}
-use Rattle.checker.proofs.Adding.{letter_turn}
+use Rattle.checker.proofs.Adding.{letter_free, letter_turn, ok_taken}
 use Rattle.checker.proofs.output.add_letters.Goals as goal
+
+pub unwrap-requires : goal.unwrap-requires
+unwrap-requires c =
+    ok_taken c.push_letter.result _ _ _
+    (letter_free (contents_of c.args.witness.now) (contents_of c.loop-letter.witness) c.args.word.now c.loop-letter.letter-index c.loop-letter-test.true c.requires.started c.requires.below c.requires.room c.loop-letter.invariant)
+    c.push_letter.ensures
 
 pub loop-letter-preserved : goal.loop-letter-preserved
 loop-letter-preserved c =
