@@ -26,15 +26,3 @@ variable_at (At (Variable x)) = Some x
 abbrev pub is_end : Mark → Bool
 is_end End = true
 is_end (At place) = false
-
--- the side that begins here
-abbrev pub first_side : List Mark → Side
-first_side [] = []
-first_side (End ∷ marks) = []
-first_side (At place ∷ marks) = place ∷ first_side marks
-
--- what comes behind its end
-abbrev pub after_side : List Mark → List Mark
-after_side [] = []
-after_side (End ∷ marks) = marks
-after_side (At place ∷ marks) = after_side marks

@@ -8,7 +8,7 @@ ghost use Rattle.sides.specs.Holding.{all_places, only};
 ghost use Rattle.sides.specs.Marks.{marks_of};
 ghost use Rattle.sides.specs.Seeking.{First, FirstUnequal};
 
-use crate::mark::{MOST_EQUATIONS, MOST_PLACES, Mark, Marks, put};
+use crate::mark::{MOST_EQUATIONS, MOST_PLACES, Mark, Marks};
 use crate::{ends, passes, text};
 use std::alloc::{AllocError, Global};
 use std::marker::Model;
@@ -71,10 +71,8 @@ impl Sides {
         requires room { places self.old + (length left.now + length right.now) ≤ 2048 }
         ensures { self.new ≡ self.old ++ ((side_of left.now, side_of right.now) ∷ []) }
     {
-        text::put_text(&mut self.marks, left);
-        put(&mut self.marks, Mark::End);
-        text::put_text(&mut self.marks, right);
-        put(&mut self.marks, Mark::End);
+        text::put_side(&mut self.marks, left);
+        text::put_side(&mut self.marks, right);
         self.number += 1;
     }
 
