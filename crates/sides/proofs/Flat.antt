@@ -175,8 +175,14 @@ count_at p (x ∷ s) = omega (arith, sum_by-cons (λ m. cond (lifted p m) 1 0) (
 count_flat : (x : ℕ) (ss : List Side) → count_of x (flat ss) ≡ count_by (is_variable x) (flat_map (λ s. s) ss)
 count_flat x [] = refl
 count_flat x (s ∷ ss) =
-    omega (arith, sum_by-append (λ m. cond (lifted (is_variable x) m) 1 0) (map At s) (End ∷ flat ss), count_more x End (flat ss), count_at (is_variable x) s, count_flat x ss,
-    sum_by-append (λ q. cond (is_variable x q) 1 0) s (flat_map (λ t. t) ss))
+    omega (
+      arith,
+      sum_by-append (λ m. cond (lifted (is_variable x) m) 1 0) (map At s) (End ∷ flat ss),
+      count_more x End (flat ss),
+      count_at (is_variable x) s,
+      count_flat x ss,
+      sum_by-append (λ q. cond (is_variable x q) 1 0) s (flat_map (λ t. t) ss),
+    )
 
 pub count_all : (x : ℕ) (ms : List Mark) → Whole ms → count_of x ms ≡ count_by (is_variable x) (all_places (equations_in ms))
 unfolding marks_of

@@ -1,8 +1,8 @@
 -- What is sought in the sides: the first variable, and the first equation whose sides differ. Assumes nothing.
-use Rattle.std.specs.Prelude.{◌≡◌, ℕ, ◌-◌, ◌<◌, ◌≤◌, Bool, true, false, cond, List, [], ◌∷◌, length, take, Some, None, Option, ◌==◌, nat_lt, slice_index_or}
+use Rattle.std.specs.Prelude.{◌≡◌, ℕ, ◌-◌, ◌<◌, ◌≤◌, Bool, true, false, List, [], length, take, Some, None, Option, slice_index_or}
 use Rattle.std.specs.List.{AllByRecursion}
 use Rattle.systems.specs.declared.Place.TheVariants.{Letter, Variable}
-use Rattle.systems.specs.Sides.{Side, Equation, SameSides}
+use Rattle.systems.specs.Sides.{Equation, SameSides}
 use Rattle.sides.specs.declared.mark.Mark.{Mark}
 use Rattle.sides.specs.declared.mark.Mark.TheVariants.{End, At}
 

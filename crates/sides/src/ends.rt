@@ -67,6 +67,7 @@ pub(crate) fn first_unequal(marks: &[Mark], number: usize) -> Option<usize>
     requires counted { number ≡ length (equations_in marks.now) }
     ensures { FirstUnequal result (equations_in marks.now) }
 {
+    // no iterator of equations: it would be a type with laws of its own, for this loop alone
     let mut rest = marks;
     for k in 0..number {
         let (left, after) = split(rest);

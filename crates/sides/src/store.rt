@@ -18,11 +18,12 @@ use systems::{ChoiceRefusal, LoadRefusal, Place};
 // No more places are loaded.
 const MOST_LOADED: usize = 1_024;
 
-// The sides of at most 32 equations, with at most 2,048 places: a list of marks, a second list that the next pass fills, and the number of the equations, which would cost a pass to count.
+// The sides of at most 32 equations, with at most 2,048 places: a list of marks, a second list that the next pass fills, and the number of the equations.
 #[derive(Drop)]
 pub struct Sides {
     marks: Marks,
     spare: Marks,
+    // kept, since counting them would cost a pass over the marks
     number: usize,
 }
 

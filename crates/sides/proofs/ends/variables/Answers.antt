@@ -1,6 +1,6 @@
 use Rattle.std.proofs.Common.{◌≡◌, ℕ, ◌+◌, ◌<◌, Bool, true, false, ◌||◌, eqb, List, length, get_or, drop, sym, None, refl, ap, ◌∙◌, arith, rules}
 use Rattle.std.proofs.Math.Bool.{or-false}
-use Rattle.std.proofs.lemmas.List.{at_drop_more, at_drop_all, get_or-replicate, length-set}
+use Rattle.std.proofs.lemmas.List.{at_drop_more, get_or-replicate, length-set}
 use Rattle.systems.specs.declared.Place.TheVariants.{Variable}
 use Rattle.systems.specs.Rows.{any}
 use Rattle.systems.specs.Sides.{is_variable}
@@ -42,10 +42,3 @@ loop-mark-preserved c =
         ],
       )
     ]
-
-pub returns : goal.returns
-returns c =
-    let ms = c.args.marks.now in
-    λ y lt.
-    let g = get_or c.loop-mark.found y false in
-    sym (or-false g) ∙ ap (λ b. g || b) (sym (at_drop_all (any (lifted (is_variable y))) ms c.loop-mark.mark-index c.loop-mark-test.false)) ∙ c.loop-mark.invariant.1 y lt

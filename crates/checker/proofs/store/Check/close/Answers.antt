@@ -1,4 +1,4 @@
-use Rattle.std.proofs.Common.{◌≡◌, length, Some, None, sym, ap, ◌∙◌, ap₂, arith}
+use Rattle.std.proofs.Common.{◌≡◌, Some, None, sym, ap, ◌∙◌, ap₂}
 use Rattle.std.specs.Option.{option_map}
 use Rattle.model.specs.Witnesses.{Contents, entries_fit, rules_fit}
 use Rattle.guarantee.specs.declared.CloseRefusal.TheVariants.{Fails}
