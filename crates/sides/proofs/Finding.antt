@@ -1,15 +1,14 @@
 -- What noting the variables one mark after another gives. Assumes nothing.
-use Rattle.std.proofs.Common.{◌≡◌, ℕ, zero, suc, ◌<◌, Bool, true, false, ◌||◌, eqb, ltb, ◌≢◌, List, length, get_or, set, replicate, is_some, Some, None, Option, sym, refl, ap, ◌∙◌, ⊎_elim, arith}
+use Rattle.std.proofs.Common.{◌≡◌, ℕ, ◌<◌, Bool, true, false, ◌||◌, eqb, ◌≢◌, List, length, get_or, set, Some, None, sym, refl, ap, ◌∙◌, ⊎_elim}
+use Rattle.std.proofs.Math.Bool.{or_assoc, or-false}
 use Rattle.std.proofs.lemmas.List.{get_or-set_same, get_or-set_other}
-use Rattle.std.proofs.lemmas.Bool.{cond-true, cond-false, cases_Bool, lt-ltb, ltb-true, ne_eqb, eqb-true, eqb-false, or_right, false≢true}
+use Rattle.std.proofs.lemmas.Bool.{cases_Bool, ne_eqb, eqb-true, eqb-false, or_right}
 use Rattle.systems.specs.declared.Place.TheVariants.{Letter, Variable}
 use Rattle.systems.specs.Sides.{is_variable}
 use Rattle.sides.specs.declared.mark.Mark.{Mark}
 use Rattle.sides.specs.declared.mark.Mark.TheVariants.{End, At}
 use Rattle.sides.specs.Marks.{lifted}
 use Rattle.sides.specs.Seeking.{variable_at}
-use Rattle.sides.proofs.Ending.{or_none}
-use Rattle.sides.proofs.Flat.{or_assoc}
 
 -- a variable that is found stands there
 pub at_some : (m : Mark) (x : ℕ) → Some x ≡ variable_at m → m ≡ At (Variable x)
@@ -29,12 +28,6 @@ at_none End y e = refl
 at_none (At (Letter a)) y e = refl
 at_none (At (Variable x)) y e = cc
 
--- at first nothing is noted
-pub none_yet : (n y : ℕ) → get_or (replicate n false) y false ≡ false
-none_yet zero y = refl
-none_yet (suc n) zero = refl
-none_yet (suc n) (suc y) = none_yet n y
-
 -- what is noted at one more mark
 pub noted : (found : List Bool) (x y : ℕ) → x < length found → get_or (set found x true) y false ≡ (get_or found y false || eqb y x)
 noted found x y lt =
@@ -44,7 +37,7 @@ noted found x y lt =
     ap (λ z. get_or (set found x true) z false) same ∙ get_or-set_same found x true false lt ∙ sym (or_right (get_or found y false) (eqb y x) is))
     (λ (is : eqb y x ≡ false).
     let other : y ≢ x = eqb-false y x is in
-    get_or-set_other found x y true false other ∙ or_none (get_or found y false) ∙ ap (λ b. get_or found y false || b) (sym is))
+    get_or-set_other found x y true false other ∙ sym (or-false (get_or found y false)) ∙ ap (λ b. get_or found y false || b) (sym is))
     (cases_Bool (eqb y x))
 
 -- what was noted and what is left make the whole

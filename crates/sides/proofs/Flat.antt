@@ -1,7 +1,7 @@
 -- What each pass over the marks does to the equations that they hold, and how many places there are. Assumes nothing.
 use Rattle.std.proofs.Common.{◌≡◌, ℕ, zero, suc, ◌+◌, ◌*◌, ◌<◌, Bool, true, false, cond, ◌&&◌, ◌||◌, eqb, ltb, List, [], ◌∷◌, ◌++◌, map, length, replicate, is_some, Some, None, Option, sym, refl, ap, ◌∙◌, ap₂, append_assoc, add-mul, arith}
-use mathlib.Core.List.{map-append}
-use Rattle.std.proofs.lemmas.List.{length-append, length-map}
+use Rattle.std.proofs.Math.Bool.{and-false, or_assoc}
+use Rattle.std.proofs.lemmas.List.{length-append, length-map, map-append}
 use Rattle.std.proofs.lemmas.List.Sums.{sum_by-cons, sum_by-append}
 use Rattle.std.proofs.lemmas.Bool.{cond-false, ne_eqb, lt-ltb, and_parts, false≢true}
 use Rattle.std.specs.List.{count_by, flat_map}
@@ -68,10 +68,6 @@ cond_same : {A B : Type 0} (f : A → B) (b : Bool) (u v : B) (x y : A) → u �
 cond_same f true u v x y e d = e
 cond_same f false u v x y e d = d
 
-and_none : {A : Type 0} (b : Bool) (u v : A) → cond (b && false) u v ≡ v
-and_none true u v = refl
-and_none false u v = refl
-
 module _ (p q : Place → Bool) (c : Place) where
   abbrev R₂ : List Mark → List Mark
   R₂ = replace_pairs (lifted p) (lifted q) (At c)
@@ -82,7 +78,7 @@ module _ (p q : Place → Bool) (c : Place) where
   pairs_step : (s : Side) (ms : List Mark) → R₂ (map At s ++ (End ∷ ms)) ≡ map At (r₂ s) ++ (End ∷ R₂ ms)
   pairs_step [] [] = refl
   pairs_step [] (m ∷ ms) = refl
-  pairs_step (x ∷ []) ms = and_none (p x) (At c ∷ R₂ ms) (At x ∷ R₂ (End ∷ ms)) ∙ ap (λ r. At x ∷ r) (pairs_step [] ms)
+  pairs_step (x ∷ []) ms = cond-false (p x && false) (At c ∷ R₂ ms) (At x ∷ R₂ (End ∷ ms)) (and-false (p x)) ∙ ap (λ r. At x ∷ r) (pairs_step [] ms)
   pairs_step (x ∷ (y ∷ s)) ms =
       cond_same (λ t. map At t ++ (End ∷ R₂ ms)) (p x && q y) (At c ∷ R₂ (map At s ++ (End ∷ ms))) (At x ∷ R₂ (At y ∷ (map At s ++ (End ∷ ms)))) (c ∷ r₂ s) (x ∷ r₂ (y ∷ s))
       (ap (λ t. At c ∷ t) (pairs_step s ms)) (ap (λ t. At x ∷ t) (pairs_step (y ∷ s) ms))
@@ -179,8 +175,14 @@ count_at p (x ∷ s) = omega (arith, sum_by-cons (λ m. cond (lifted p m) 1 0) (
 count_flat : (x : ℕ) (ss : List Side) → count_of x (flat ss) ≡ count_by (is_variable x) (flat_map (λ s. s) ss)
 count_flat x [] = refl
 count_flat x (s ∷ ss) =
-    omega (arith, sum_by-append (λ m. cond (lifted (is_variable x) m) 1 0) (map At s) (End ∷ flat ss), count_more x End (flat ss), count_at (is_variable x) s, count_flat x ss,
-    sum_by-append (λ q. cond (is_variable x q) 1 0) s (flat_map (λ t. t) ss))
+    omega (
+      arith,
+      sum_by-append (λ m. cond (lifted (is_variable x) m) 1 0) (map At s) (End ∷ flat ss),
+      count_more x End (flat ss),
+      count_at (is_variable x) s,
+      count_flat x ss,
+      sum_by-append (λ q. cond (is_variable x q) 1 0) s (flat_map (λ t. t) ss),
+    )
 
 pub count_all : (x : ℕ) (ms : List Mark) → Whole ms → count_of x ms ≡ count_by (is_variable x) (all_places (equations_in ms))
 unfolding marks_of
@@ -191,10 +193,6 @@ count_all x ms h = ap (count_of x) (sym h) ∙ count_flat x (sides (equations_in
 some-+ : (m n : ℕ) → ltb 0 (m + n) ≡ (ltb 0 m || ltb 0 n)
 some-+ zero n = ap (ltb 0) (omega arith)
 some-+ (suc m) n = lt-ltb 0 (suc m + n) (omega arith) ∙ sym (ap (λ b. b || ltb 0 n) (lt-ltb 0 (suc m) (omega arith)))
-
-pub or_assoc : (a b c : Bool) → ((a || b) || c) ≡ (a || (b || c))
-or_assoc true b c = refl
-or_assoc false b c = refl
 
 one_if : (b : Bool) → ltb 0 (cond b 1 0) ≡ b
 one_if true = refl

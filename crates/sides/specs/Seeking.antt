@@ -1,8 +1,8 @@
 -- What is sought in the sides: the first variable, and the first equation whose sides differ. Assumes nothing.
-use Rattle.std.specs.Prelude.{◌≡◌, ℕ, ◌-◌, ◌<◌, ◌≤◌, Bool, true, false, cond, List, [], ◌∷◌, length, take, Some, None, Option, ◌==◌, nat_lt, slice_index_or}
+use Rattle.std.specs.Prelude.{◌≡◌, ℕ, ◌-◌, ◌<◌, ◌≤◌, Bool, true, false, List, [], length, take, Some, None, Option, slice_index_or}
 use Rattle.std.specs.List.{AllByRecursion}
 use Rattle.systems.specs.declared.Place.TheVariants.{Letter, Variable}
-use Rattle.systems.specs.Sides.{Side, Equation, SameSides}
+use Rattle.systems.specs.Sides.{Equation, SameSides}
 use Rattle.sides.specs.declared.mark.Mark.{Mark}
 use Rattle.sides.specs.declared.mark.Mark.TheVariants.{End, At}
 
@@ -26,15 +26,3 @@ variable_at (At (Variable x)) = Some x
 abbrev pub is_end : Mark → Bool
 is_end End = true
 is_end (At place) = false
-
--- the side that begins here
-abbrev pub first_side : List Mark → Side
-first_side [] = []
-first_side (End ∷ marks) = []
-first_side (At place ∷ marks) = place ∷ first_side marks
-
--- what comes behind its end
-abbrev pub after_side : List Mark → List Mark
-after_side [] = []
-after_side (End ∷ marks) = marks
-after_side (At place ∷ marks) = after_side marks

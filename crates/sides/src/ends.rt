@@ -1,10 +1,10 @@
 // What is sought in the marks: the first variable, and the first equation whose sides differ.
-ghost use Rattle.std.specs.Prelude.{◌≡◌, ℕ, ◌<◌, min, false, map, length, slice_index_or};
-ghost use Rattle.std.specs.List.{filter_map, position, reduce};
+ghost use Rattle.std.specs.Prelude.{◌≡◌, ℕ, ◌<◌, min, false, length, slice_index_or};
+ghost use Rattle.std.specs.List.{after_first, before_first, filter_map, position, position_or_len, reduce};
 ghost use Rattle.systems.specs.Rows.{any};
 ghost use Rattle.systems.specs.Sides.{is_variable};
 ghost use Rattle.sides.specs.Marks.{lifted, Whole, equations_in};
-ghost use Rattle.sides.specs.Seeking.{variable_at, is_end, first_side, after_side, FirstUnequal};
+ghost use Rattle.sides.specs.Seeking.{variable_at, is_end, FirstUnequal};
 
 use crate::mark::Mark;
 use systems::Place;
@@ -53,9 +53,9 @@ fn end(marks: &[Mark]) -> Option<usize>
 
 // The first side, and what comes behind its end.
 fn split(marks: &[Mark]) -> (&[Mark], &[Mark])
-    requires { length (first_side marks.now) < length marks.now }
-    ensures first { result.0.now ≡ map Mark.At (first_side marks.now) }
-    ensures rest { result.1.now ≡ after_side marks.now }
+    requires { position_or_len is_end marks.now < length marks.now }
+    ensures first { result.0.now ≡ before_first is_end marks.now }
+    ensures rest { result.1.now ≡ after_first is_end marks.now }
 {
     let at = end(marks).unwrap();
     (&marks[..at], &marks[at + 1..])
@@ -67,6 +67,7 @@ pub(crate) fn first_unequal(marks: &[Mark], number: usize) -> Option<usize>
     requires counted { number ≡ length (equations_in marks.now) }
     ensures { FirstUnequal result (equations_in marks.now) }
 {
+    // no iterator of equations: it would be a type with laws of its own, for this loop alone
     let mut rest = marks;
     for k in 0..number {
         let (left, after) = split(rest);

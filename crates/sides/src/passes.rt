@@ -1,4 +1,5 @@
-// The passes over the marks. Each writes what the marks become into a second list.
+// The passes over the marks. Each writes what the marks become into a second list, since no memory is asked for after `new`.
+// The letters a, b and `new` stay parameters: a struct of them would be made for one call and taken apart in it.
 ghost use Rattle.std.specs.Prelude.{◌≡◌, ◌+◌, ◌≤◌, ◌<◌, ◌++◌, map, length};
 ghost use Rattle.systems.specs.Rows.{row as block};
 ghost use Rattle.sides.specs.Marks.{mark_swap, mark_pairs, mark_blocks, count_of};

@@ -8,7 +8,7 @@ ghost use Rattle.sides.specs.Holding.{all_places, only};
 ghost use Rattle.sides.specs.Marks.{marks_of};
 ghost use Rattle.sides.specs.Seeking.{First, FirstUnequal};
 
-use crate::mark::{MOST_EQUATIONS, MOST_PLACES, Mark, Marks, put};
+use crate::mark::{MOST_EQUATIONS, MOST_PLACES, Mark, Marks};
 use crate::{ends, passes, text};
 use std::alloc::{AllocError, Global};
 use std::marker::Model;
@@ -18,11 +18,12 @@ use systems::{ChoiceRefusal, LoadRefusal, Place};
 // No more places are loaded.
 const MOST_LOADED: usize = 1_024;
 
-// The sides of at most 32 equations, with at most 2,048 places: a list of marks, a second list that the next pass fills, and the number of the equations, which would cost a pass to count.
+// The sides of at most 32 equations, with at most 2,048 places: a list of marks, a second list that the next pass fills, and the number of the equations.
 #[derive(Drop)]
 pub struct Sides {
     marks: Marks,
     spare: Marks,
+    // kept, since counting them would cost a pass over the marks
     number: usize,
 }
 
@@ -71,10 +72,8 @@ impl Sides {
         requires room { places self.old + (length left.now + length right.now) ≤ 2048 }
         ensures { self.new ≡ self.old ++ ((side_of left.now, side_of right.now) ∷ []) }
     {
-        text::put_text(&mut self.marks, left);
-        put(&mut self.marks, Mark::End);
-        text::put_text(&mut self.marks, right);
-        put(&mut self.marks, Mark::End);
+        text::put_side(&mut self.marks, left);
+        text::put_side(&mut self.marks, right);
         self.number += 1;
     }
 

@@ -1,5 +1,5 @@
 // Sides as text.
-ghost use Rattle.std.specs.Prelude.{◌≡◌, ◌+◌, ◌≤◌, ◌++◌, map, length};
+ghost use Rattle.std.specs.Prelude.{◌≡◌, ◌+◌, ◌<◌, ◌≤◌, [], ◌∷◌, ◌++◌, map, length};
 ghost use Rattle.systems.specs.Loading.{place_of, readable, side_of};
 
 use crate::mark::{Mark, Marks, put};
@@ -9,9 +9,9 @@ use systems::Place;
 fn read(b: u8) -> Option<Place>
     ensures { result ≡ place_of b }
 {
-    match b as char {
-        'a'..='z' => Some(Place::Letter(u16::from(b - b'a'))),
-        'A'..='Z' => Some(Place::Variable(b - b'A')),
+    match b {
+        b'a'..=b'z' => Some(Place::Letter(u16::from(b - b'a'))),
+        b'A'..=b'Z' => Some(Place::Variable(b - b'A')),
         _ => None,
     }
 }
@@ -23,15 +23,16 @@ pub(crate) fn is_text(bytes: &[u8]) -> bool
     bytes.iter().all(|b| read(*b).is_some())
 }
 
-// Writes the places that the bytes stand for.
-pub(crate) fn put_text(out: &mut Marks, bytes: &[u8])
-    requires room { length out.old + length bytes.now ≤ 2112 }
-    ensures items { out.new ≡ out.old ++ map Mark.At (side_of bytes.now) }
-    ensures bound { length out.new ≤ length out.old + length bytes.now }
+// Writes the side that the bytes stand for, and its end.
+pub(crate) fn put_side(out: &mut Marks, bytes: &[u8])
+    requires room { length out.old + length bytes.now < 2112 }
+    ensures items { out.new ≡ out.old ++ (map Mark.At (side_of bytes.now) ++ (Mark.End ∷ [])) }
+    ensures bound { length out.new ≤ length out.old + length bytes.now + 1 }
 {
     for b in bytes {
         if let Some(place) = read(*b) {
             put(out, Mark::At(place));
         }
     }
+    put(out, Mark::End);
 }

@@ -1,5 +1,5 @@
 -- Parts of what a choice does: a letter popped, a rule made. Assumes nothing.
-use Rattle.std.specs.Prelude.{◌≡◌, ℕ, ◌<◌, cond, [], ◌∷◌, ◌++◌, length, is_some, Some, None, Option, nat_lt}
+use Rattle.std.specs.Prelude.{◌≡◌, ℕ, ◌<◌, cond, [], ◌∷◌, ◌++◌, length, Some, None, Option, nat_lt}
 use Rattle.model.specs.declared.Rule.{Rule}
 use Rattle.systems.specs.declared.Choice.{Choice}
 use Rattle.systems.specs.declared.Choice.TheVariants.{Left, Right}
@@ -9,7 +9,7 @@ use Rattle.systems.specs.declared.Pop.{Pop}
 use Rattle.systems.specs.declared.Pop.TheVariants.{AtLeft, AtRight}
 use Rattle.systems.specs.Choices.{swap}
 use Rattle.systems.specs.Refusals.{pop_refusal}
-use Rattle.systems.specs.Sides.{Side, on_sides, places}
+use Rattle.systems.specs.Sides.{Side, on_sides}
 use Rattle.systems.specs.Standings.{Standing}
 
 -- the refusal that comes however many places would stand then; where there is none, only the places are left to judge, and there is room for the pop

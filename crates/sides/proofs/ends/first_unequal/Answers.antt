@@ -1,5 +1,4 @@
-use Rattle.std.proofs.Common.{◌≡◌, ◌+◌, ◌-◌, ◌<◌, ◌≤◌, List, [], ◌∷◌, ◌++◌, map, length, take, drop, sym, ap, ◌∙◌, subst, not, Decides, arith, rules}
-use Rattle.std.proofs.lemmas.List.{take_all}
+use Rattle.std.proofs.Common.{◌≡◌, ◌+◌, ◌-◌, ◌<◌, List, [], ◌∷◌, ◌++◌, map, length, take, drop, sym, ap, ◌∙◌, subst, not, Decides, arith, rules}
 use Rattle.std.proofs.ByRecursion.{All-more}
 use Rattle.std.proofs.lemmas.Bool.{both_ways}
 use Rattle.std.proofs.lemmas.Slice.Eq.{slice_eq-Decides}
@@ -70,9 +69,3 @@ loop-k-preserved c =
       e.2,
       All-more SameSides (equations_in c.args.marks.now) c.loop-k.k ([], []) (inside p) c.loop-k.invariant.1 (same_map (here p).0 (here p).1 (sym e.0 ∙ (same q).0 (ap not c.if-ne.false) ∙ e.1)),
     )
-
-pub returns : goal.returns
-returns c =
-    let E = equations_in c.args.marks.now in
-    let long : length E ≤ c.loop-k.k = omega (arith, c.requires.counted, c.loop-k-test.false) in
-    subst (AllByRecursion SameSides) (take_all c.loop-k.k E long) c.loop-k.invariant.1

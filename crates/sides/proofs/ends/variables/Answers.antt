@@ -1,5 +1,6 @@
 use Rattle.std.proofs.Common.{◌≡◌, ℕ, ◌+◌, ◌<◌, Bool, true, false, ◌||◌, eqb, List, length, get_or, drop, sym, None, refl, ap, ◌∙◌, arith, rules}
-use Rattle.std.proofs.lemmas.List.{at_drop_more, at_drop_all, length-set}
+use Rattle.std.proofs.Math.Bool.{or-false}
+use Rattle.std.proofs.lemmas.List.{at_drop_more, get_or-replicate, length-set}
 use Rattle.systems.specs.declared.Place.TheVariants.{Variable}
 use Rattle.systems.specs.Rows.{any}
 use Rattle.systems.specs.Sides.{is_variable}
@@ -7,13 +8,12 @@ use Rattle.sides.specs.declared.mark.Mark.{Mark}
 use Rattle.sides.specs.declared.mark.Mark.TheVariants.{End, At}
 use Rattle.sides.specs.Seeking.{variable_at}
 use Rattle.sides.specs.Marks.{lifted}
-use Rattle.sides.proofs.Ending.{or_none}
-use Rattle.sides.proofs.Finding.{at_some, at_none, at_other, none_yet, found_more, noted}
+use Rattle.sides.proofs.Finding.{at_some, at_none, at_other, found_more, noted}
 use Rattle.sides.proofs.ends.variables.Goals as goal
 use Rattle.sides.proofs.ends.variables.Goals.{in-Some+then-x-le-Z, in_default, in_default-via-in-None-1, in_default-via-in-Some+else-x-le-Z}
 
 pub loop-mark-init : goal.loop-mark-init
-loop-mark-init c = (refl, λ y lt. ap (λ b. b || any (lifted (is_variable y)) c.args.marks.now) (none_yet 26 y))
+loop-mark-init c = (refl, λ y lt. ap (λ b. b || any (lifted (is_variable y)) c.args.marks.now) (get_or-replicate 26 y false false lt))
 
 pub loop-mark-preserved : goal.loop-mark-preserved
 loop-mark-preserved c =
@@ -26,7 +26,7 @@ loop-mark-preserved c =
     let more : (y : ℕ) → y < 26 → get_or found' y false ≡ (get_or found y false || lifted (is_variable y) m) → (get_or found' y false || stands y (drop (i + 1) ms)) ≡ stands y ms =
     λ y lt note. found_more (get_or found y false) (get_or found' y false) (lifted (is_variable y) m) (stands y (drop (i + 1) ms)) (stands y (drop i ms)) (stands y ms) note (at_drop_more (stands y) ms i End c.loop-mark-test.true) (c.loop-mark.invariant.1 y lt) in
     let same : (y : ℕ) → y < 26 → lifted (is_variable y) m ≡ false → found' ≡ found → (get_or found' y false || stands y (drop (i + 1) ms)) ≡ stands y ms =
-    λ y lt none is. more y lt (ap (λ f. get_or f y false) is ∙ or_none (get_or found y false) ∙ ap (λ b. get_or found y false || b) (sym none)) in
+    λ y lt none is. more y lt (ap (λ f. get_or f y false) is ∙ sym (or-false (get_or found y false)) ∙ ap (λ b. get_or found y false || b) (sym none)) in
     elim c.match-variable.branch [
       | in-Some+then-x-le-Z w ↦
           let here : m ≡ At (Variable w.in-Some.x) = at_some m w.in-Some.x w.in-Some.ensures in
@@ -42,10 +42,3 @@ loop-mark-preserved c =
         ],
       )
     ]
-
-pub returns : goal.returns
-returns c =
-    let ms = c.args.marks.now in
-    λ y lt.
-    let g = get_or c.loop-mark.found y false in
-    or_none g ∙ ap (λ b. g || b) (sym (at_drop_all (any (lifted (is_variable y))) ms c.loop-mark.mark-index c.loop-mark-test.false)) ∙ c.loop-mark.invariant.1 y lt

@@ -1,7 +1,6 @@
-use Rattle.std.proofs.Common.{min, sym, ap, ◌∙◌, subst}
+use Rattle.std.proofs.Common.{min, ap, ◌∙◌}
 use Rattle.std.specs.List.{filter_map, reduce}
-use Rattle.systems.specs.Sides.{stands_in}
-use Rattle.sides.specs.Seeking.{First, variable_at}
+use Rattle.sides.specs.Seeking.{variable_at}
 use Rattle.sides.proofs.Ending.{first_live}
 use Rattle.sides.proofs.store.Sides.first_live.Goals as goal
 

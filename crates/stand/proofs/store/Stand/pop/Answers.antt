@@ -1,9 +1,8 @@
 use Rattle.std.proofs.Common.{◌≡◌, ◌<◌, ◌≤◌, [], ◌∷◌, ◌++◌, Some, None, refl, sym, ap, ◌∙◌, arith, rules}
-use Rattle.std.proofs.lemmas.Bool.{cond-true, cond-false, lt-ltb, le-ltb}
 use Rattle.systems.specs.declared.ChoiceRefusal.TheVariants.{TooManyPlaces}
 use Rattle.letters.specs.Holding.{rules_of}
 use Rattle.systems.specs.Choices.{swap}
-use Rattle.systems.specs.Refusals.{choice_refusal, after_choice}
+use Rattle.systems.specs.Refusals.{choice_refusal}
 use Rattle.systems.specs.Sides.{on_sides, places}
 use Rattle.systems.specs.Standings.{Standing}
 use Rattle.stand.specs.Popping.{popping}
@@ -13,9 +12,9 @@ use Rattle.stand.proofs.store.Stand.pop.Goals.{Joined-pop, in-AtLeft, in-AtRight
 
 puts : (c : Joined-pop) → Puts c.args.self.now c.args.pop c.match-pop.x.0 c.match-pop.x.1 c.match-pop.x.2
 puts c = elim c.match-pop.branch [
-    | in-AtLeft w ↦ rw (w.x-is, w.in-AtLeft.is) (record { refusal = refl; stands = refl })
-    | in-AtRight w ↦ rw (w.x-is, w.in-AtRight.is) (record { refusal = refl; stands = refl })
-  ]
+  | in-AtLeft w ↦ rw (w.x-is, w.in-AtLeft.is) (record { refusal = refl; stands = refl })
+  | in-AtRight w ↦ rw (w.x-is, w.in-AtRight.is) (record { refusal = refl; stands = refl })
+]
 
 pub returns-in_err-may_pop-clause-refusal : goal.returns-in_err-may_pop-clause-refusal
 returns-in_err-may_pop-clause-refusal c =

@@ -1,7 +1,7 @@
 use Rattle.std.proofs.Common.{◌≡◌, ◌+◌, ◌≤◌, ◌++◌, map, length, drop}
 use Rattle.systems.specs.Loading.{side_of}
 use Rattle.sides.specs.declared.mark.Mark.TheVariants.{At}
-use Rattle.sides.proofs.text.put_text.Given as goal
+use Rattle.sides.proofs.text.put_side.Given as goal
 
 abbrev pub invariant-loop-b : goal.invariant-loop-b
 invariant-loop-b l =
