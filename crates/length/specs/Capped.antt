@@ -1,4 +1,5 @@
 -- Numbers up to 1,000,000, and their laws. Assumes nothing.
+-- The proofs stand here, since an impl of the trait and what its contracts read may cite nothing of the crate's own proofs/.
 use Rattle.std.specs.Prelude.{◌≡◌, ℕ, ◌+◌, ◌≤◌, min}
 use mathlib.Core.HLevel.{is_prop→PathP}
 use Rattle.std.proofs.Math.Bridge.{le_prop}
@@ -18,7 +19,6 @@ capped n = record { count = min n 1000000; ok = min-le_right n 1000000 }
 abbrev pub longer : Capped → Capped → Capped
 longer a b = capped (a.count + b.count)
 
--- the two laws stay here, where an impl can cite them: it cites nothing of its own crate's proofs/
 pub longer_associative : Associative longer
 longer_associative = record { associates = λ x y z. capped-≡ _ _ (omega arith) }
 

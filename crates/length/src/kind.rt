@@ -41,8 +41,11 @@ impl Length {
     pub fn new(least: [u32; VARIABLES], most: [u32; VARIABLES]) -> Result<Length, LengthRefusal>
         ensures { MatchResult result (λ k. (k.least ≡ least) × (k.most ≡ most) × ((v : ℕ) → v < 26 → InOrder (slice_index least v) (slice_index most v))) (λ e. (length_number e ≡ 82) × ((v : ℕ) × (v < 26) × IsOutOfOrder (slice_index least v) (slice_index most v))) }
     {
-        let mut limits = least.iter().zip(&most);
-        if limits.any(|(least, most)| least > most || *most > CAP) {
+        if least
+            .iter()
+            .zip(&most)
+            .any(|(least, most)| least > most || *most > CAP)
+        {
             return Err(LengthRefusal::OutOfOrder);
         }
         Ok(Length { least, most })
@@ -79,7 +82,7 @@ impl Measure for Length {
     }
 
     fn passes(&self, variable: Variable, value: Capped) -> bool {
-        let v = variable.number() as usize;
+        let v = usize::from(variable.number());
         self.least[v] <= value.count && value.count <= self.most[v]
     }
 }

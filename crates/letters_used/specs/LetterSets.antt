@@ -1,4 +1,5 @@
 -- Sets of letters as bits, and the laws of their union. Assumes nothing.
+-- The proofs stand here, since an impl of the trait and what its contracts read may cite nothing of the crate's own proofs/.
 use Rattle.std.specs.Prelude.{◌≡◌, ℕ, ◌^◌, ◌<◌, min, Bool, ◌&&◌, ◌==◌, bit_and, bit_or}
 use Rattle.std.proofs.Common.{arith}
 use mathlib.Core.HLevel.{is_prop→PathP}

@@ -67,7 +67,7 @@ impl Measure for LettersUsed {
     }
 
     fn passes(&self, variable: Variable, value: LetterSet) -> bool {
-        let v = variable.number() as usize;
+        let v = usize::from(variable.number());
         let required = self.required[v];
         let allowed = self.allowed[v];
         value.bits & required == required && allowed & value.bits == value.bits

@@ -1,4 +1,5 @@
 -- Where a word leads from each of 8 states, and the laws of reading one word after another. Assumes nothing.
+-- The proofs stand here, since an impl of the trait and what its contracts read may cite nothing of the crate's own proofs/.
 use Rattle.std.specs.Prelude.{◌≡◌, ℕ, ◌+◌, ◌*◌, ◌<◌, min, List, map, length, slice_index}
 use Rattle.std.proofs.Common.{ap, sym, ◌∙◌, arith}
 use mathlib.Core.HLevel.{is_prop→PathP, ×_prop, Π_prop}

@@ -24,7 +24,7 @@ pub struct Symbol<A> {
     ghost ok: { number < 26 },
 }
 
-// Copies of one are equal to it, whatever the alphabet's marker is.
+// Written out, since a derive of a generic type refuses its ghost field.
 impl<A> Clone for Symbol<A> {
     ghost is_clone = { λ s t. t ≡ s };
 
@@ -35,6 +35,7 @@ impl<A> Clone for Symbol<A> {
     }
 }
 
+// Whatever the alphabet's marker is.
 impl<A> Copy for Symbol<A> {}
 
 impl<A> Symbol<A> {

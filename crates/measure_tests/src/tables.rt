@@ -24,7 +24,7 @@ fn power_is_so_many_joins(rt: HostRuntime) -> Result<(), Fail> {
     let mut joined = kind.empty();
     for n in 0..300 {
         let fast = power(&kind, value, n);
-        assert!(rt; fast.to == joined.to);
+        assert!(rt; fast == joined);
         joined = kind.join(joined, value);
     }
     Ok(())
@@ -38,7 +38,7 @@ fn rules_stand_for_what_they_spell(rt: HostRuntime) -> Result<(), Fail> {
     let rules = [Rule::Pair(0, 1), Rule::Block(26, 3), Rule::Pair(27, 2)];
     let made = value_of(heap, &kind, &rules, &[28, 26, 5])?;
     let spelled = value_of(heap, &kind, &[], &[0, 1, 0, 1, 0, 1, 2, 0, 1, 5])?;
-    assert!(rt; made.to == spelled.to);
+    assert!(rt; made == spelled);
     Ok(())
 }
 
