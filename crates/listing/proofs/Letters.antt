@@ -1,5 +1,5 @@
 -- A word read letter by letter. Assumes nothing.
-use Rattle.std.proofs.Common.{◌≡◌, ℕ, ◌+◌, ◌<◌, ◌≤◌, Bool, true, false, cond, leb, List, [], ◌∷◌, ◌++◌, length, Some, None, Ok, Err, MatchOption, Option, Result, sym, refl, ap, ◌∙◌, append_assoc, append-nil, arith, lit<, length-append, MatchResult}
+use Rattle.std.proofs.Common.{◌≡◌, ℕ, ◌+◌, ◌<◌, ◌≤◌, Bool, true, false, cond, leb, List, [], ◌∷◌, ◌++◌, length, Some, None, Ok, Err, MatchOption, Option, Result, sym, refl, ap, ◌∙◌, append_assoc, arith, lit<, length-append, MatchResult}
 use Rattle.std.specs.Result.{result_ok}
 use Rattle.std.proofs.lemmas.Bool.{lt-leb, leb-false}
 use Rattle.model.specs.Spelling.{Word, known}
@@ -39,11 +39,6 @@ pushes c d piece a (Err e) some few lt is h = λ b low room named.
     let z : ◌≡◌ {A = ℕ} 0 1 = cc in
     omega arith
 
--- letters that are added at the end
-grown_none : (entries : List Entry) → grown [] entries ≡ entries
-grown_none [] = refl
-grown_none (e ∷ older) = λ i. record { variable = e.variable; word = append-nil e.word i } ∷ older
-
 grown_more : (w : Word) (a : ℕ) (entries : List Entry) → lengthened a (grown w entries) ≡ grown (w ++ (a ∷ [])) entries
 grown_more w a [] = refl
 grown_more w a (e ∷ older) = λ i. record { variable = e.variable; word = append_assoc e.word w (a ∷ []) i } ∷ older
@@ -51,13 +46,6 @@ grown_more w a (e ∷ older) = λ i. record { variable = e.variable; word = appe
 grown_letters : (w : Word) (entries : List Entry) → letters_in (grown w entries) ≤ length w + letters_in entries
 grown_letters w [] = omega arith
 grown_letters w (e ∷ older) = omega (arith, length-append e.word w)
-
-grown_count : (w : Word) (entries : List Entry) → length (grown w entries) ≡ length entries
-grown_count w [] = refl
-grown_count w (e ∷ older) = refl
-
-pub none_new : (c : Contents) → c ≡ with_letters [] c
-none_new c = λ i. record { rules = c.rules; entries = sym (grown_none c.entries) i }
 
 more_new : (c d d' : Contents) (w : Word) (a : ℕ) → d ≡ with_letters w c → d' ≡ with_letter a d → d' ≡ with_letters (w ++ (a ∷ [])) c
 more_new c d d' w a e f = f ∙ ap (with_letter a) e ∙ (λ i. record { rules = c.rules; entries = grown_more w a c.entries i })
@@ -80,12 +68,6 @@ word_push (b ∷ w) a = append_assoc (letter_name b) (44 ∷ commaed w) (letter_
 
 same_known : (c d : Contents) (w : Word) → d ≡ with_letters w c → known d.rules ≡ known c.rules
 same_known c d w e = ap (λ x. known x.rules) e
-
-pub midway_none : (c : Contents) (field : Bytes) → Midway c field c field
-midway_none c field = record { done = []; low = refl; split = refl; new = none_new c }
-
-pub midway_some : (c : Contents) (field : Bytes) (d : Contents) (rest : Bytes) → Midway c field d rest → 0 < length c.entries → 0 < length d.entries
-midway_some c field d rest m some = omega (arith, ap (λ x. length x.entries) m.new, grown_count m.done c.entries)
 
 pub midway_more : (c : Contents) (field : Bytes) (d : Contents) (rest piece more : Bytes) (d' : Contents) → Midway c field d rest → rest ≡ piece ++ 44 ∷ more → Pushed d piece d' → Midway c field d' more
 midway_more c field d rest piece more d' m cut p = record {

@@ -41,8 +41,3 @@ shown_told (Some (a ∷ w)) n m letters e few some put =
     let short : letters ≡ as_text (take 64 (a ∷ w)) = same ∙ ap (λ k. as_text (take k (a ∷ w))) least ∙ ap as_text (take_min 64 (a ∷ w)) in
     (λ i. sym short i ++ cond (ltb 64 (sym whole i)) (codes "...") [])
 
--- the rows of one more variable
-pub rows_more : (c : Contents) (x : ℕ) (first mid new : Bytes) → mid ≡ first ++ rows c x → new ≡ mid ++ row x (spelled c x) → new ≡ first ++ rows c (x + 1)
-rows_more c x first mid new p q =
-    let next : suc x ≡ x + 1 = omega arith in
-    q ∙ ap (λ l. l ++ row x (spelled c x)) p ∙ append_assoc first (rows c x) (row x (spelled c x)) ∙ ap (λ n. first ++ rows c n) next
