@@ -36,9 +36,6 @@ peel_more : (line front back digits word : Bytes) (x n : ℕ) (w : Bytes) → fr
 peel_more line front back digits word x n w h cut hd more f =
     same_cut 32 digits (decimal n) word w hd (number_spaceless n f.short) (sym more ∙ (peel line front back x n w h cut f).1)
 
-pub no_name : (line : Bytes) → free 32 line ≡ true → NoFields line
-no_name line h x n w f = no_cut 32 line (variable_name x) (decimal n ++ 32 ∷ w) h f.is
-
 pub no_number : (line front back : Bytes) → free 32 front ≡ true → line ≡ front ++ 32 ∷ back → free 32 back ≡ true → NoFields line
 no_number line front back h cut none x n w f = no_cut 32 back (decimal n) w none (peel line front back x n w h cut f).1
 

@@ -1,19 +1,21 @@
 -- A word read letter by letter. Assumes nothing.
-use Rattle.std.proofs.Common.{◌≡◌, ℕ, ◌+◌, ◌<◌, ◌≤◌, Bool, true, false, cond, leb, List, [], ◌∷◌, ◌++◌, length, Some, None, Ok, Err, MatchOption, Option, Result, sym, refl, ap, ◌∙◌, append_assoc, append-nil, arith, lit<, length-append, MatchResult}
+use Rattle.std.proofs.Common.{◌≡◌, ℕ, zero, suc, ◌+◌, ◌<◌, ◌≤◌, Bool, true, false, not, cond, eqb, leb, get_or, List, [], ◌∷◌, ◌++◌, length, Some, None, Ok, Err, MatchOption, Result, sym, refl, ap, ◌∙◌, append_assoc, arith, lit<, length-append, MatchResult}
 use Rattle.std.specs.Result.{result_ok}
-use Rattle.std.proofs.lemmas.Bool.{lt-leb, leb-false}
+use Rattle.std.specs.List.{All, join_with_byte, slice_split}
+use Rattle.std.proofs.lemmas.Bool.{and_parts, not-true, lt-leb, leb-false}
+use Rattle.std.proofs.lemmas.List.Elements.{All-nil, All-cons}
+use Rattle.std.proofs.lemmas.List.Splits.{slice_split_none, slice_split_at, length-slice_split, join_with_byte-slice_split}
 use Rattle.model.specs.Spelling.{Word, known}
 use Rattle.model.specs.Witnesses.{Contents, Entry, all_below, letters_in}
 use Rattle.text.specs.Names.{letter_name}
-use Rattle.text.specs.Pieces.{Bytes, between, free}
-use Rattle.text.proofs.Cuts.{no_cut, same_cut}
+use Rattle.text.specs.Pieces.{Bytes, free}
 use Rattle.text.proofs.Names.{free_letter, same_letter}
 use Rattle.format.specs.Listing.{letter_names, word_text}
-use Rattle.model.proofs.Entries.{below_parts, below_push}
+use Rattle.model.proofs.Entries.{below_parts, below_at, below_push}
 use Rattle.witness.specs.declared.refusals.LetterRefusal.{LetterRefusal}
 use Rattle.witness.specs.declared.refusals.LetterRefusal.TheVariants.{NoWord, UnknownLetter, TooManyLetters}
 use Rattle.witness.specs.Answers.{letter_refusal, lengthened, with_letter}
-use Rattle.listing.specs.Words.{commaed, grown, with_letters, Pushed, NotPushed, Midway, Worded, NotWorded}
+use Rattle.listing.specs.Words.{grown, with_letters, Pushed, NotPushed, Midway, Worded, NotWorded}
 
 -- a letter that is not refused is known, and one that may come is not refused
 unknown_not : (p q r : Bool) → cond p (Some NoWord) (cond q (Some UnknownLetter) (cond r (Some TooManyLetters) None)) ≡ None → q ≡ false
@@ -39,11 +41,6 @@ pushes c d piece a (Err e) some few lt is h = λ b low room named.
     let z : ◌≡◌ {A = ℕ} 0 1 = cc in
     omega arith
 
--- letters that are added at the end
-grown_none : (entries : List Entry) → grown [] entries ≡ entries
-grown_none [] = refl
-grown_none (e ∷ older) = λ i. record { variable = e.variable; word = append-nil e.word i } ∷ older
-
 grown_more : (w : Word) (a : ℕ) (entries : List Entry) → lengthened a (grown w entries) ≡ grown (w ++ (a ∷ [])) entries
 grown_more w a [] = refl
 grown_more w a (e ∷ older) = λ i. record { variable = e.variable; word = append_assoc e.word w (a ∷ []) i } ∷ older
@@ -52,113 +49,73 @@ grown_letters : (w : Word) (entries : List Entry) → letters_in (grown w entrie
 grown_letters w [] = omega arith
 grown_letters w (e ∷ older) = omega (arith, length-append e.word w)
 
-grown_count : (w : Word) (entries : List Entry) → length (grown w entries) ≡ length entries
-grown_count w [] = refl
-grown_count w (e ∷ older) = refl
-
-pub none_new : (c : Contents) → c ≡ with_letters [] c
-none_new c = λ i. record { rules = c.rules; entries = sym (grown_none c.entries) i }
-
 more_new : (c d d' : Contents) (w : Word) (a : ℕ) → d ≡ with_letters w c → d' ≡ with_letter a d → d' ≡ with_letters (w ++ (a ∷ [])) c
 more_new c d d' w a e f = f ∙ ap (with_letter a) e ∙ (λ i. record { rules = c.rules; entries = grown_more w a c.entries i })
-
-commaed_push : (w : Word) (a : ℕ) (rest : Bytes) → commaed w ++ (letter_name a ++ 44 ∷ rest) ≡ commaed (w ++ (a ∷ [])) ++ rest
-commaed_push [] a rest = sym (append_assoc (letter_name a) (44 ∷ []) rest)
-commaed_push (b ∷ w) a rest =
-    append_assoc (letter_name b) (44 ∷ commaed w) (letter_name a ++ 44 ∷ rest)
-    ∙ ap (λ t. letter_name b ++ 44 ∷ t) (commaed_push w a rest)
-    ∙ sym (append_assoc (letter_name b) (44 ∷ commaed (w ++ (a ∷ []))) rest)
-
--- the letters before the last, and the last
-last_between : (b a : ℕ) (w : Word) → letter_name b ++ 44 ∷ (commaed w ++ letter_name a) ≡ between 44 (letter_name b) (letter_names (w ++ (a ∷ [])))
-last_between b a [] = refl
-last_between b a (c ∷ w) = ap (λ t. letter_name b ++ 44 ∷ t) (append_assoc (letter_name c) (44 ∷ commaed w) (letter_name a) ∙ last_between c a w)
-
-word_push : (w : Word) (a : ℕ) → commaed w ++ letter_name a ≡ word_text (w ++ (a ∷ []))
-word_push [] a = refl
-word_push (b ∷ w) a = append_assoc (letter_name b) (44 ∷ commaed w) (letter_name a) ∙ last_between b a w
 
 same_known : (c d : Contents) (w : Word) → d ≡ with_letters w c → known d.rules ≡ known c.rules
 same_known c d w e = ap (λ x. known x.rules) e
 
-pub midway_none : (c : Contents) (field : Bytes) → Midway c field c field
-midway_none c field = record { done = []; low = refl; split = refl; new = none_new c }
+names_push : (w : Word) (a : ℕ) → letter_names w ++ (letter_name a ∷ []) ≡ letter_names (w ++ (a ∷ []))
+names_push [] a = refl
+names_push (b ∷ w) a = ap (λ l. letter_name b ∷ l) (names_push w a)
 
-pub midway_some : (c : Contents) (field : Bytes) (d : Contents) (rest : Bytes) → Midway c field d rest → 0 < length c.entries → 0 < length d.entries
-midway_some c field d rest m some = omega (arith, ap (λ x. length x.entries) m.new, grown_count m.done c.entries)
+names_count : (w : Word) → length (letter_names w) ≡ length w
+names_count [] = refl
+names_count (a ∷ w) = omega (arith, names_count w)
 
-pub midway_more : (c : Contents) (field : Bytes) (d : Contents) (rest piece more : Bytes) (d' : Contents) → Midway c field d rest → rest ≡ piece ++ 44 ∷ more → Pushed d piece d' → Midway c field d' more
-midway_more c field d rest piece more d' m cut p = record {
+name_at : (w : Word) (k : ℕ) (d : Bytes) → k < length w → get_or (letter_names w) k d ≡ letter_name (get_or w k 0)
+name_at [] k d lt = absurd (omega arith)
+name_at (a ∷ w) zero d lt = refl
+name_at (a ∷ w) (suc k) d lt = name_at w k d (omega arith)
+
+-- one more piece
+pub midway_more : (c : Contents) (pieces : List Bytes) (d d' : Contents) (piece : Bytes) → Midway c pieces d → Pushed d piece d' → Midway c (pieces ++ (piece ∷ [])) d'
+midway_more c pieces d d' piece m p = record {
   done = m.done ++ (p.a ∷ []);
   low = below_push (known c.rules) m.done p.a m.low (omega (arith, p.low, same_known c d m.done m.new));
-  split = m.split ∙ ap (λ x. commaed m.done ++ x) (cut ∙ ap (λ x. x ++ 44 ∷ more) p.is) ∙ commaed_push m.done p.a more;
+  named = (λ i. m.named i ++ (p.is i ∷ [])) ∙ names_push m.done p.a;
   new = more_new c d d' m.done p.a m.new p.new;
 }
 
-midway_last : (c : Contents) (field : Bytes) (d : Contents) (rest : Bytes) (d' : Contents) → Midway c field d rest → Pushed d rest d' → Worded c field d'
-midway_last c field d rest d' m p = record {
-  w = m.done ++ (p.a ∷ []);
-  is = m.split ∙ ap (λ x. commaed m.done ++ x) p.is ∙ word_push m.done p.a;
-  new = more_new c d d' m.done p.a m.new p.new;
-}
+-- the pieces between commas
+abbrev pub pieces_of : Bytes → List Bytes
+pieces_of field = slice_split (λ b. eqb b 44) field
 
--- what is left of a word of which the first letters are read: at least one letter
-record Left (done : Word) (rest : Bytes) (n : ℕ) (w : Word) : Type 0 where
-  a : ℕ
-  u : Word
-  whole : w ≡ done ++ (a ∷ u)
-  is : rest ≡ between 44 (letter_name a) (letter_names u)
-  low : a < n
+joined : (a : ℕ) (w : Word) → join_with_byte 44 (letter_names (a ∷ w)) ≡ word_text (a ∷ w)
+joined a [] = refl
+joined a (b ∷ w) = ap (λ t. letter_name a ++ 44 ∷ t) (joined b w)
 
-left_cons : (d b : ℕ) (done : Word) (rest : Bytes) (n : ℕ) (w : Word) → b ≡ d → Left done rest n w → Left (d ∷ done) rest n (b ∷ w)
-left_cons d b done rest n w e l = record { a = l.a; u = l.u; whole = (λ i. e i ∷ l.whole i); is = l.is; low = l.low }
+read_whole : (c : Contents) (field : Bytes) (d : Contents) (w : Word) → pieces_of field ≡ letter_names w → d ≡ with_letters w c → Worded c field d
+read_whole c field d [] e new = absurd (omega (arith, ap length e, length-slice_split (λ b. eqb b 44) field))
+read_whole c field d (a ∷ w) e new = record { w = a ∷ w; is = sym (join_with_byte-slice_split 44 field) ∙ ap (join_with_byte 44) e ∙ joined a w; new = new }
 
-no_comma : (a : ℕ) → a < 1000 → free 44 (letter_name a) ≡ true
-no_comma a lt = free_letter 44 a (lit< tt) (λ z. omega arith) (omega arith)
+-- all pieces are read
+pub midway_all : (c : Contents) (field : Bytes) (pieces : List Bytes) (d : Contents) → Midway c pieces d → pieces ≡ pieces_of field → Worded c field d
+midway_all c field pieces d m all = read_whole c field d m.done (sym all ∙ m.named) m.new
 
-strip : (n : ℕ) (done : Word) (rest : Bytes) (b : ℕ) (w : Word) → n < 1000 → all_below n done ≡ true → all_below n (b ∷ w) ≡ true → commaed done ++ rest ≡ between 44 (letter_name b) (letter_names w) → Left done rest n (b ∷ w)
-strip n [] rest b w few hd hw e = record { a = b; u = w; whole = refl; is = e; low = (below_parts n b w hw).0 }
-strip n (d ∷ done) rest b [] few hd hw e =
-    absurd (no_cut 44 (letter_name b) (letter_name d) (commaed done ++ rest) (no_comma b (omega (arith, (below_parts n b [] hw).0))) (sym e ∙ append_assoc (letter_name d) (44 ∷ commaed done) rest))
-strip n (d ∷ done) rest b (c ∷ w) few hd hw e =
-    let p = below_parts n b (c ∷ w) hw in
-    let q = below_parts n d done hd in
-    let lb : b < n = p.0 in
-    let ld : d < n = q.0 in
-    let both = same_cut 44 (letter_name d) (letter_name b) (commaed done ++ rest) (between 44 (letter_name c) (letter_names w)) (no_comma d (omega arith)) (no_comma b (omega arith)) (sym (append_assoc (letter_name d) (44 ∷ commaed done) rest) ∙ e) in
-    let same : b ≡ d = same_letter b d (omega arith) (omega arith) (sym both.0) in
-    left_cons d b done rest n (c ∷ w) same (strip n done rest c w few q.1 p.1 both.1)
+lacks : (b : ℕ) (bs : Bytes) → free b bs ≡ true → All (λ c. eqb c b ≡ false) bs
+lacks b [] h = All-nil (λ c. eqb c b ≡ false)
+lacks b (c ∷ cs) h =
+    let p = and_parts (not (eqb c b)) (free b cs) h in
+    All-cons (λ x. eqb x b ≡ false) c cs (not-true (eqb c b) p.0) (lacks b cs p.1)
 
--- the letter that a word has next
-next_letter : (rest : Bytes) (a : ℕ) (u : Word) (piece more : Bytes) → a < 1000 → rest ≡ between 44 (letter_name a) (letter_names u) → free 44 piece ≡ true → rest ≡ piece ++ 44 ∷ more → piece ≡ letter_name a
-next_letter rest a [] piece more lt is hp cut = absurd (no_cut 44 (letter_name a) piece more (no_comma a lt) (sym is ∙ cut))
-next_letter rest a (b ∷ u) piece more lt is hp cut = (same_cut 44 piece (letter_name a) more (between 44 (letter_name b) (letter_names u)) hp (no_comma a lt) (sym cut ∙ is)).0
+no_comma : (a : ℕ) → a < 1000 → All (λ b. eqb b 44 ≡ false) (letter_name a)
+no_comma a lt = lacks 44 (letter_name a) (free_letter 44 a (lit< tt) (λ z. omega arith) (omega arith))
 
-last_letter : (rest : Bytes) (a : ℕ) (u : Word) → rest ≡ between 44 (letter_name a) (letter_names u) → free 44 rest ≡ true → rest ≡ letter_name a
-last_letter rest a [] is h = is
-last_letter rest a (b ∷ u) is h = absurd (no_cut 44 rest (letter_name a) (between 44 (letter_name b) (letter_names u)) h is)
+-- the pieces of a word are the names of its letters
+split_word : (n a : ℕ) (w : Word) → n < 1000 → all_below n (a ∷ w) ≡ true → pieces_of (word_text (a ∷ w)) ≡ letter_names (a ∷ w)
+split_word n a [] few low = slice_split_none (λ b. eqb b 44) (letter_name a) (no_comma a (omega (arith, (below_parts n a [] low).0)))
+split_word n a (b ∷ w) few low =
+    let p = below_parts n a (b ∷ w) low in
+    slice_split_at (λ b. eqb b 44) (letter_name a) 44 (word_text (b ∷ w)) (no_comma a (omega (arith, p.0))) refl ∙ ap (λ l. letter_name a ∷ l) (split_word n b w few p.1)
 
--- the next letter of a word that the field is may come
-still : (c : Contents) (field : Bytes) (d : Contents) (rest : Bytes) (m : Midway c field d rest) (w : Word) → length w + letters_in c.entries ≤ 1024 → (l : Left m.done rest (known c.rules) w) → (l.a < known d.rules) × (letters_in d.entries < 1024)
-still c field d rest m w le l = (
-  omega (arith, l.low, same_known c d m.done m.new),
-  omega (arith, ap (λ x. letters_in x.entries) m.new, grown_letters m.done c.entries, ap length l.whole, length-append m.done (l.a ∷ l.u)),
-)
-
-pub no_word_piece : (c : Contents) (field : Bytes) (d : Contents) (rest piece more : Bytes) → known c.rules ≤ 538 → (field ≡ 45 ∷ [] → ⊥) → Midway c field d rest → free 44 piece ≡ true → rest ≡ piece ++ 44 ∷ more → NotPushed d piece → NotWorded c field
-no_word_piece c field d rest piece more few nd m hp cut np [] low le e = nd e
-no_word_piece c field d rest piece more few nd m hp cut np (b ∷ w) low le e =
-    let l = strip (known c.rules) m.done rest b w (omega arith) m.low low (sym m.split ∙ e) in
-    let s = still c field d rest m (b ∷ w) le l in
-    np l.a s.0 s.1 (next_letter rest l.a l.u piece more (omega (arith, l.low)) l.is hp cut)
-
-no_word_last : (c : Contents) (field : Bytes) (d : Contents) (rest : Bytes) → known c.rules ≤ 538 → (field ≡ 45 ∷ [] → ⊥) → Midway c field d rest → free 44 rest ≡ true → NotPushed d rest → NotWorded c field
-no_word_last c field d rest few nd m hp np [] low le e = nd e
-no_word_last c field d rest few nd m hp np (b ∷ w) low le e =
-    let l = strip (known c.rules) m.done rest b w (omega arith) m.low low (sym m.split ∙ e) in
-    let s = still c field d rest m (b ∷ w) le l in
-    np l.a s.0 s.1 (last_letter rest l.a l.u l.is hp)
-
-pub word_last : (c : Contents) (field : Bytes) (d : Contents) (rest : Bytes) (d' : Contents) (r : Option (Unit {0})) → known c.rules ≤ 538 → (field ≡ 45 ∷ [] → ⊥) → Midway c field d rest → free 44 rest ≡ true → MatchOption r (NotPushed d rest) (λ _. Pushed d rest d') → MatchOption r (NotWorded c field) (λ _. Worded c field d')
-word_last c field d rest d' (Some u) few nd m hp p = midway_last c field d rest d' m p
-word_last c field d rest d' None few nd m hp np = no_word_last c field d rest few nd m hp np
+-- the piece that a word has next may come
+pub no_word : (c : Contents) (field : Bytes) (pieces : List Bytes) (d : Contents) (piece : Bytes) (k : ℕ) → known c.rules ≤ 538 → (field ≡ 45 ∷ [] → ⊥) → Midway c pieces d → length pieces ≡ k → (k < length (pieces_of field)) × (piece ≡ get_or (pieces_of field) k piece) → NotPushed d piece → NotWorded c field
+no_word c field pieces d piece k few nd m count turn np [] low le e = nd e
+no_word c field pieces d piece k few nd m count turn np (b ∷ w) low le e =
+    let split : pieces_of field ≡ letter_names (b ∷ w) = ap pieces_of e ∙ split_word (known c.rules) b w (omega arith) low in
+    let within : k < length (b ∷ w) = omega (arith, turn.0, ap length split, names_count (b ∷ w)) in
+    np (get_or (b ∷ w) k 0)
+    (omega (arith, below_at (known c.rules) (b ∷ w) k low within, same_known c d m.done m.new))
+    (omega (arith, ap (λ x. letters_in x.entries) m.new, grown_letters m.done c.entries, ap length m.named, names_count m.done, within))
+    (turn.1 ∙ ap (λ l. get_or l k piece) split ∙ name_at (b ∷ w) k piece within)

@@ -1,5 +1,5 @@
 -- A rule read from its line, and added or refused. Assumes nothing.
-use Rattle.std.proofs.Common.{◌≡◌, ℕ, ◌^◌, ◌<◌, ◌≤◌, true, ◌∷◌, ◌++◌, length, get_or, Some, None, Ok, Err, codes, decimal, Bor, MatchOption, Option, Result, sym, refl, ap, ◌∙◌, arith, MatchResult}
+use Rattle.std.proofs.Common.{◌≡◌, ℕ, ◌^◌, ◌<◌, ◌≤◌, true, ◌∷◌, ◌++◌, length, Some, None, Ok, Err, codes, decimal, Bor, MatchOption, Option, Result, sym, refl, ap, ◌∙◌, arith, MatchResult}
 use Rattle.std.specs.Result.{result_ok}
 use Rattle.model.specs.declared.Rule.{Rule}
 use Rattle.model.specs.declared.Rule.TheVariants.{Pair, Block}
@@ -10,7 +10,7 @@ use Rattle.model.proofs.Fitting.{fits_after, from_fits, taken_fits, refused_unfi
 use Rattle.text.specs.Names.{letter_name}
 use Rattle.text.specs.Pieces.{Bytes, free}
 use Rattle.text.specs.Reading.{Below, Both, Reads, joining}
-use Rattle.text.proofs.Cuts.{no_cut, same_cut}
+use Rattle.text.proofs.Cuts.{same_cut}
 use Rattle.text.proofs.Names.{free_letter}
 use Rattle.format.specs.Bounds.{Within}
 use Rattle.format.specs.Listing.{rule_line}

@@ -12,13 +12,6 @@ use Rattle.format.proofs.Lengths.{push_length}
 use Rattle.listing.specs.Tables.{entry_of}
 use Rattle.listing.specs.Words.{names_after}
 
--- a rule's line, with its newline
-pub rule_parts : (name make first last : Bytes) → name ++ (make ++ (first ++ (codes " " ++ (last ++ 10 ∷ [])))) ≡ (name ++ (make ++ (first ++ 32 ∷ last))) ++ 10 ∷ []
-rule_parts name make first last =
-    ap (λ t. name ++ (make ++ t)) (sym (append_assoc first (32 ∷ last) (10 ∷ [])))
-    ∙ ap (λ t. name ++ t) (sym (append_assoc make (first ++ 32 ∷ last) (10 ∷ [])))
-    ∙ sym (append_assoc name (make ++ (first ++ 32 ∷ last)) (10 ∷ []))
-
 pub entry_text : (rules : List Rule) (x : ℕ) (w : Word) → variable_name x ++ (codes " " ++ (decimal (length (spell_word rules w)) ++ (codes " " ++ (word_text w ++ 10 ∷ [])))) ≡ entry_line rules (entry_of x w) ++ 10 ∷ []
 entry_text rules x w = ap (λ t. (65 + x) ∷ 32 ∷ t) (sym (append_assoc (decimal (length (spell_word rules w))) (32 ∷ word_text w) (10 ∷ [])))
 
@@ -42,10 +35,16 @@ older_room : (newer older : List Rule) → length (lines_text (rule_lines older)
 older_room [] older = omega arith
 older_room (rule ∷ newer) older = omega (arith, older_room newer older, push_length (rule_lines (newer ++ older)) (rule_line (known (newer ++ older)) rule))
 
-pub front_room : (rules : List Rule) (i : ℕ) → length (front rules i) ≤ length (lines_text (rule_lines (reverse rules)))
+front_room : (rules : List Rule) (i : ℕ) → length (front rules i) ≤ length (lines_text (rule_lines (reverse rules)))
 front_room rules i =
     let is : reverse (drop i rules) ++ reverse (take i rules) ≡ reverse rules = sym (reverse-append (take i rules) (drop i rules)) ∙ ap reverse (take-append-drop i rules) in
     subst (λ l. length (front rules i) ≤ length (lines_text (rule_lines l))) is (older_room (reverse (drop i rules)) (reverse (take i rules)))
+
+-- there is room for the line of each rule
+pub front_fits : (rules : List Rule) (i : ℕ) (d : Rule) → i < length rules → length (front rules i) + (length (rule_line (26 + i) (get_or rules i d)) + 1) ≤ length (lines_text (rule_lines (reverse rules)))
+front_fits rules i d lt =
+    let line = rule_line (26 + i) (get_or rules i d) in
+    omega (arith, front_room rules (i + 1), ap length (front_more rules i d lt), length-append (front rules i) (line ++ 10 ∷ []), length-append line (10 ∷ []))
 
 -- the letters with commas before them
 after_append : (v w : Word) → names_after (v ++ w) ≡ names_after v ++ names_after w
@@ -55,8 +54,12 @@ after_append (a ∷ v) w = ap (λ t. (44 ∷ letter_name a) ++ t) (after_append 
 pub after_more : (w : Word) (i : ℕ) → i < length w → names_after (take (i + 1) w) ≡ names_after (take i w) ++ (44 ∷ letter_name (get_or w i 0))
 after_more w i lt = ap names_after (take_more w i 0 lt) ∙ after_append (take i w) (get_or w i 0 ∷ []) ∙ ap (λ t. names_after (take i w) ++ t) (append-nil (44 ∷ letter_name (get_or w i 0)))
 
-pub after_room : (w : Word) (i : ℕ) → length (names_after (take i w)) ≤ length (names_after w)
+after_room : (w : Word) (i : ℕ) → length (names_after (take i w)) ≤ length (names_after w)
 after_room w i = omega (arith, ap length (ap names_after (sym (take-append-drop i w)) ∙ after_append (take i w) (drop i w)), length-append (names_after (take i w)) (names_after (drop i w)))
+
+-- there is room for each letter
+pub after_fits : (w : Word) (i : ℕ) → i < length w → length (names_after (take i w)) + (1 + length (letter_name (get_or w i 0))) ≤ length (names_after w)
+after_fits w i lt = omega (arith, after_room w (i + 1), ap length (after_more w i lt), length-append (names_after (take i w)) (44 ∷ letter_name (get_or w i 0)))
 
 pub word_after : (a : ℕ) (w : Word) → letter_name a ++ names_after w ≡ word_text (a ∷ w)
 word_after a [] = append-nil (letter_name a)

@@ -78,8 +78,9 @@ below_room rules (e ∷ older) n =
     (λ _. omega arith)
     (λ _. omega (arith, below_room rules older n, push_length (entry_lines rules older) (entry_line rules e)))
 
-pub table_room : (c : Contents) (n : ℕ) → length (table c n) ≤ length (lines_text (entry_lines c.rules c.entries))
-table_room c n = below_room c.rules c.entries n
+-- there is room for the line of each variable
+pub table_fits : (c : Contents) (n : ℕ) → entries_fit c.rules c.entries ≡ true → length (table c n) + length (variable_text c n) ≤ length (lines_text (entry_lines c.rules c.entries))
+table_fits c n h = omega (arith, below_room c.rules c.entries (n + 1), ap length (table_more c n h), length-append (table c n) (variable_text c n))
 
 -- the line of a variable whose word and length are known
 pub found_text : (c : Contents) (x : ℕ) (w : Word) (n : ℕ) → Some w ≡ word_of c.entries x → Ok n ≡ length_answer (spelled c x) → variable_name x ++ (codes " " ++ (decimal n ++ (codes " " ++ (word_text w ++ 10 ∷ [])))) ≡ variable_text c x
@@ -87,7 +88,3 @@ found_text c x w n e f =
     let is : Ok n ≡ length_answer (Some (spell_word c.rules w)) = f ∙ ap (λ o. length_answer (option_map (spell_word c.rules) o)) (sym e) in
     let same : n ≡ length (spell_word c.rules w) = cc in
     ap (λ k. variable_name x ++ (codes " " ++ (decimal k ++ (codes " " ++ (word_text w ++ 10 ∷ []))))) same ∙ entry_text c.rules x w ∙ ap (line_of c x) e
-
-pub found_length : (c : Contents) (x : ℕ) (w : Word) (n : ℕ) → Some w ≡ word_of c.entries x → Ok n ≡ length_answer (spelled c x) → length (variable_text c x) ≡ 2 + (length (decimal n) + (1 + (length (word_text w) + 1)))
-found_length c x w n e f =
-    ap length (sym (found_text c x w n e f)) ∙ omega (arith, length-append (decimal n) (codes " " ++ (word_text w ++ 10 ∷ [])), length-append (word_text w) (10 ∷ []))

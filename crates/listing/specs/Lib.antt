@@ -1,4 +1,5 @@
 pub mod Lines
+pub mod Printing
 pub mod Refusals
 pub mod Stages
 pub mod Tables

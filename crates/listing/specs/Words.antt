@@ -4,14 +4,10 @@ use Rattle.model.specs.Spelling.{Word, known}
 use Rattle.model.specs.Witnesses.{Contents, Entry, all_below, letters_in}
 use Rattle.text.specs.Names.{letter_name}
 use Rattle.text.specs.Pieces.{Bytes}
-use Rattle.format.specs.Listing.{word_text}
+use Rattle.format.specs.Listing.{letter_names, word_text}
 use Rattle.witness.specs.Answers.{with_letter}
 
--- the letters, each with a comma behind it, and each with a comma before it
-abbrev pub commaed : Word → Bytes
-commaed [] = []
-commaed (a ∷ w) = letter_name a ++ 44 ∷ commaed w
-
+-- the letters, each with a comma before it
 abbrev pub names_after : Word → Bytes
 names_after [] = []
 names_after (a ∷ w) = (44 ∷ letter_name a) ++ names_after w
@@ -35,11 +31,11 @@ pub record Pushed (c : Contents) (piece : Bytes) (d : Contents) : Type 0 where
 abbrev pub NotPushed : Contents → Bytes → Type 0
 NotPushed c piece = (a : ℕ) → a < known c.rules → letters_in c.entries < 1024 → piece ≢ letter_name a
 
--- the part of the field before the rest is read
-pub record Midway (c : Contents) (field : Bytes) (d : Contents) (rest : Bytes) : Type 0 where
+-- the pieces are the names of letters, which are the last of the newest word now
+pub record Midway (c : Contents) (pieces : List Bytes) (d : Contents) : Type 0 where
   pub done : Word
   pub low : all_below (known c.rules) done ≡ true
-  pub split : field ≡ commaed done ++ rest
+  pub named : pieces ≡ letter_names done
   pub new : d ≡ with_letters done c
 
 -- the field is a word, whose letters are the last of the newest word now

@@ -3,8 +3,8 @@
 #![tactic(auto)]
 
 mod entries;
+mod printer;
 mod printing;
-mod puts;
 mod reading;
 pub mod refusals;
 mod rules;

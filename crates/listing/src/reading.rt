@@ -54,6 +54,7 @@ fn read_lines(witness: &mut Witness, text: &[u8]) -> Result<(), usize>
     let mut stage = Stage::Opening;
     let mut rest = text;
     let mut line = 1;
+    // `take_field` and no `for` over a `split`, whose last piece, behind the last newline, is no line.
     while !rest.is_empty() {
         let Some((bytes, after)) = take_field(rest, b'\n') else {
             return Err(line);

@@ -15,6 +15,7 @@ pub enum ReadRefusal {
     NotListing { line: usize },
 }
 
+// Each number is told by a match, since a refusal with a field, as NotListing, has none to cast.
 impl PrintRefusal {
     // The refusal by its number.
     pub fn number(self) -> u8

@@ -30,6 +30,7 @@ fn rule_of(fields: &[u8]) -> Option<Rule>
     ensures { Reads (Within 538 (2 ^ 32)) rule_text fields.now result }
 {
     let (make, letters) = take_field(fields, b' ')?;
+    // Two tests and no `match` on the bytes, whose last arm is eleven goals, some of which stay open.
     if make == b"pair".as_slice() {
         let (a, b) = letter_and(letters, letter)?;
         Some(Rule::Pair(a, b))

@@ -2,7 +2,7 @@ ghost use Rattle.std.specs.Prelude.{◌<◌, length, MatchOption};
 ghost use Rattle.witness.specs.Holding.{contents_of};
 ghost use Rattle.listing.specs.Words.{NotPushed, NotWorded, Pushed, Worded};
 
-use text::{letter, take_field};
+use text::letter;
 use witness::Witness;
 
 // Adds the letter that the piece names to the newest word, if it may come next.
@@ -25,10 +25,8 @@ pub(crate) fn read_word(witness: &mut Witness, field: &[u8]) -> Option<()>
     if field == b"-".as_slice() {
         return Some(());
     }
-    let mut rest = field;
-    while let Some((piece, after)) = take_field(rest, b',') {
+    for piece in field.split(|b| *b == b',') {
         push_piece(witness, piece)?;
-        rest = after;
     }
-    push_piece(witness, rest)
+    Some(())
 }

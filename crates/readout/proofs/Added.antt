@@ -1,14 +1,13 @@
 -- Text added behind text, and the rows of a table. Assumes nothing.
-use Rattle.std.proofs.Common.{◌≡◌, ℕ, suc, ◌+◌, ◌<◌, ◌≤◌, min, ltb, leb, cond, [], ◌∷◌, ◌++◌, length, take, Some, None, Ok, Err, codes, decimal, Option, sym, refl, ap, ◌∙◌, ⊎_elim, append_assoc, arith}
+use Rattle.std.proofs.Common.{◌≡◌, ℕ, ◌+◌, ◌<◌, ◌≤◌, min, ltb, leb, cond, [], ◌∷◌, ◌++◌, length, take, Some, None, Ok, Err, codes, decimal, Option, sym, refl, ap, ◌∙◌, ⊎_elim, arith}
 use Rattle.std.proofs.lemmas.List.{take_all}
 use Rattle.std.proofs.lemmas.Bool.{cond-true, le-leb, cases_lt}
 use Rattle.model.specs.Spelling.{Word}
-use Rattle.model.specs.Witnesses.{Contents, spelled}
 use Rattle.text.specs.Names.{variable_name}
 use Rattle.text.specs.Pieces.{Bytes}
 use Rattle.witness.specs.Answers.{as_text, length_answer}
 use Rattle.witness.specs.declared.refusals.WitnessRefusal.TheVariants.{PastWord}
-use Rattle.readout.specs.Rows.{beginning, row, rows, shown}
+use Rattle.readout.specs.Rows.{beginning, row, shown}
 use Rattle.readout.specs.Stretches.{letters_answer}
 
 -- a word whose length is answered
@@ -40,9 +39,3 @@ shown_told (Some (a ∷ w)) n m letters e few some put =
     let least : m ≡ min (length (a ∷ w)) 64 = few ∙ ap (λ k. min k 64) whole in
     let short : letters ≡ as_text (take 64 (a ∷ w)) = same ∙ ap (λ k. as_text (take k (a ∷ w))) least ∙ ap as_text (take_min 64 (a ∷ w)) in
     (λ i. sym short i ++ cond (ltb 64 (sym whole i)) (codes "...") [])
-
--- the rows of one more variable
-pub rows_more : (c : Contents) (x : ℕ) (first mid new : Bytes) → mid ≡ first ++ rows c x → new ≡ mid ++ row x (spelled c x) → new ≡ first ++ rows c (x + 1)
-rows_more c x first mid new p q =
-    let next : suc x ≡ x + 1 = omega arith in
-    q ∙ ap (λ l. l ++ row x (spelled c x)) p ∙ append_assoc first (rows c x) (row x (spelled c x)) ∙ ap (λ n. first ++ rows c n) next

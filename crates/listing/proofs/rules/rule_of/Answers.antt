@@ -1,7 +1,6 @@
-use Rattle.std.proofs.Common.{◌≡◌, ◌∷◌, ◌++◌, sym, ◌∙◌}
+use Rattle.std.proofs.Common.{sym, ◌∙◌}
 use Rattle.std.proofs.lemmas.Slice.Eq.{slice_eq-Decides}
 use Rattle.std.proofs.lemmas.Bool.{true≢false}
-use Rattle.text.specs.Pieces.{Bytes}
 use Rattle.listing.proofs.RuleLines.{other_make}
 use Rattle.listing.proofs.rules.rule_of.Goals as goal
 use Rattle.std.proofs.lemmas.Bool.Decides.{Decides-eqb}
