@@ -7,10 +7,8 @@ ghost use Rattle.checker.specs.Popped.{word_from};
 
 use crate::store::Check;
 use arrayvec::ArrayVec;
+use stand::MOST_POPS;
 use systems::Pop;
-
-// No word has more letters.
-const MOST_POPS: usize = 1_024;
 
 // The letters of a word.
 type Letters = ArrayVec<u16, MOST_POPS>;

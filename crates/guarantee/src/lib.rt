@@ -21,7 +21,7 @@ pub enum CloseRefusal {
 }
 
 impl CloseRefusal {
-    // The refusal's number.
+    // The refusal's number. (A match, since an enum with a field in a case has no numbers to cast.)
     pub fn number(self) -> u8
         ensures { result ≡ close_number self }
     {

@@ -1,11 +1,11 @@
 ghost use Rattle.std.specs.Prelude.{◌≡◌};
 ghost use Rattle.listing.specs.Refusals.{print_number, read_number};
 
-// Why a witness is not printed.
+// Why a witness is not printed, by its number.
 #[derive(Clone, Copy, PartialEq, Eq, Debug)]
 pub enum PrintRefusal {
     // under 20,000 bytes
-    BufferTooShort,
+    BufferTooShort = 71,
 }
 
 // Why a text is not read.
@@ -15,20 +15,17 @@ pub enum ReadRefusal {
     NotListing { line: usize },
 }
 
-// Each number is told by a match, since a refusal with a field, as NotListing, has none to cast.
 impl PrintRefusal {
     // The refusal by its number.
     pub fn number(self) -> u8
         ensures { result ≡ print_number self }
     {
-        match self {
-            PrintRefusal::BufferTooShort => 71,
-        }
+        self as u8
     }
 }
 
 impl ReadRefusal {
-    // The refusal by its number.
+    // The refusal by its number. (A match, since a case with a field is no number to cast.)
     pub fn number(self) -> u8
         ensures { result ≡ read_number self }
     {

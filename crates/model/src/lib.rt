@@ -15,19 +15,19 @@ pub enum Rule {
     Block(u16, u32),
 }
 
-// Why a rule may not be added to others.
+// Why a rule may not be added to others, each reason by its number.
 #[derive(Clone, Copy, PartialEq, Eq, Debug)]
 pub enum RuleRefusal {
     // a letter that is neither of a to z nor made before
-    UnknownLetter,
+    UnknownLetter = 12,
     // a pair of one letter and itself
-    EqualLetters,
+    EqualLetters = 13,
     // a block of fewer than 2 or more than 1,000,000
-    CountOutOfRange,
+    CountOutOfRange = 14,
     // 512 rules are there
-    TooManyRules,
+    TooManyRules = 22,
     // the new letter would spell more than 1,000,000,000,000 letters
-    TooLong,
+    TooLong = 24,
 }
 
 impl RuleRefusal {
@@ -35,13 +35,7 @@ impl RuleRefusal {
     pub fn number(self) -> u8
         ensures { result ≡ rule_number self }
     {
-        match self {
-            RuleRefusal::UnknownLetter => 12,
-            RuleRefusal::EqualLetters => 13,
-            RuleRefusal::CountOutOfRange => 14,
-            RuleRefusal::TooManyRules => 22,
-            RuleRefusal::TooLong => 24,
-        }
+        self as u8
     }
 }
 

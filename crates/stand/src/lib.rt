@@ -4,4 +4,4 @@
 
 mod store;
 
-pub use store::Stand;
+pub use store::{MOST_POPS, Stand};

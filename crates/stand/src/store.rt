@@ -16,7 +16,7 @@ use std::marker::Model;
 use systems::{Choice, ChoiceRefusal, LoadRefusal, Place, Pop};
 
 // No more letters are popped.
-const MOST_POPS: usize = 1_024;
+pub const MOST_POPS: usize = 1_024;
 
 // The sides, the rules and at most 1,024 pops, in the order in which they came. All room is there from the start.
 #[derive(Drop)]

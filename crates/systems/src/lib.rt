@@ -38,15 +38,15 @@ pub enum Pop {
     AtRight(u8, u16),
 }
 
-// Why an equation is not loaded.
+// Why an equation is not loaded, each reason by its number.
 #[derive(Clone, Copy, PartialEq, Eq, Debug)]
 pub enum LoadRefusal {
     // a byte that is none of a to z and A to Z
-    NoLetter,
+    NoLetter = 1,
     // 32 equations are there
-    TooManyEquations,
+    TooManyEquations = 2,
     // all sides together would have more than 1,024 places
-    TooManyPlaces,
+    TooManyPlaces = 3,
 }
 
 impl LoadRefusal {
@@ -54,11 +54,7 @@ impl LoadRefusal {
     pub fn number(self) -> u8
         ensures { result ≡ load_number self }
     {
-        match self {
-            LoadRefusal::NoLetter => 1,
-            LoadRefusal::TooManyEquations => 2,
-            LoadRefusal::TooManyPlaces => 3,
-        }
+        self as u8
     }
 }
 
@@ -84,7 +80,7 @@ pub enum ChoiceRefusal {
 }
 
 impl ChoiceRefusal {
-    // The refusal's number.
+    // The refusal's number. (A match, since an enum with a field in a case has no numbers to cast.)
     pub fn number(self) -> u8
         ensures { result ≡ choice_number self }
     {

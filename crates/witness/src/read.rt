@@ -29,10 +29,7 @@ impl WitnessRefusal {
     pub fn number(self) -> u8
         ensures { result ≡ witness_number self }
     {
-        match self {
-            WitnessRefusal::Absent => 61,
-            WitnessRefusal::PastWord => 62,
-        }
+        self as u8
     }
 }
 

@@ -32,11 +32,11 @@ impl From<Full> for LetterRefusal {
     }
 }
 
-// Why a witness does not answer.
+// Why a witness does not answer, each reason by its number.
 #[derive(Clone, Copy, PartialEq, Eq, Debug)]
 pub enum WitnessRefusal {
     // the variable has no word
-    Absent,
+    Absent = 61,
     // the place, or the stretch, lies past the word
-    PastWord,
+    PastWord = 62,
 }

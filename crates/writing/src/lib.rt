@@ -7,17 +7,17 @@ ghost use Rattle.writing.specs.Refusals.{write_number};
 ghost use Rattle.writing.specs.Theorems.{Writable, WriterRefusesRightly};
 ghost use Rattle.writing.specs.Worked.{WorkedLists};
 
-// Why no list is written.
+// Why no list is written, each reason by its number.
 #[derive(Clone, Copy, PartialEq, Eq, Debug)]
 pub enum WriteRefusal {
     // the caller's list has room for fewer than 1,050 choices
-    ShortList,
+    ShortList = 51,
     // the word of a variable of the system lies outside the buffer, or has a byte that is none of a to z
-    NoWord,
+    NoWord = 52,
     // the filled-in sides hold more than 512 letters
-    TooManyLetters,
+    TooManyLetters = 53,
     // the words do not solve every equation
-    NoSolution,
+    NoSolution = 54,
 }
 
 impl WriteRefusal {
@@ -25,12 +25,7 @@ impl WriteRefusal {
     pub fn number(self) -> u8
         ensures { result ≡ write_number self }
     {
-        match self {
-            WriteRefusal::ShortList => 51,
-            WriteRefusal::NoWord => 52,
-            WriteRefusal::TooManyLetters => 53,
-            WriteRefusal::NoSolution => 54,
-        }
+        self as u8
     }
 }
 
