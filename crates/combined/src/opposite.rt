@@ -65,8 +65,6 @@ impl<K: Measure> Measure for Opposite<K> {
 }
 
 // For the variables of the set the answer is the other one, for the rest it is the same.
-pub fn pass_and_fail_change_places() -> u8
+pub fn pass_and_fail_change_places()
     ensures { PassAndFailChangePlaces }
-{
-    0
-}
+{}

@@ -5,29 +5,21 @@
 ghost use Rattle.format.specs.Reading.{EveryListingFits, ListingOrLine, OneContents, OneLine};
 
 // Two different contents never have the same listing.
-pub fn one_contents() -> u8
+pub fn one_contents()
     ensures { OneContents }
-{
-    0
-}
+{}
 
 // Only one line is the refused one.
-pub fn one_line() -> u8
+pub fn one_line()
     ensures { OneLine }
-{
-    0
-}
+{}
 
 // Any bytes are a listing, or are refused at a line.
-pub fn listing_or_line() -> u8
+pub fn listing_or_line()
     ensures { ListingOrLine }
-{
-    0
-}
+{}
 
 // No listing is longer than 20,000 bytes.
-pub fn every_listing_fits() -> u8
+pub fn every_listing_fits()
     ensures { EveryListingFits }
-{
-    0
-}
+{}

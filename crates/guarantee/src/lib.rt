@@ -47,15 +47,11 @@ impl CloseRefusal {
 }
 
 // Whatever is loaded and chosen, and whatever measure is asked: what is accepted solves and passes, what fits a solution finds it, and every small solution is written.
-pub fn guarantee_holds<V>() -> u8
+pub fn guarantee_holds<V>()
     ensures { Guarantee V }
-{
-    0
-}
+{}
 
 // What a close answers on small systems.
-pub fn worked_closes() -> u8
+pub fn worked_closes()
     ensures { WorkedCloses }
-{
-    0
-}
+{}

@@ -88,8 +88,6 @@ impl Measure for Length {
 }
 
 // The value of a word is its length, up to 1,000,000.
-pub fn value_is_capped_length() -> u8
+pub fn value_is_capped_length()
     ensures { ValueIsCappedLength }
-{
-    0
-}
+{}

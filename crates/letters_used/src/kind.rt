@@ -75,15 +75,11 @@ impl Measure for LettersUsed {
 }
 
 // The value of a word holds a letter exactly when the letter stands in the word.
-pub fn value_is_letters_used() -> u8
+pub fn value_is_letters_used()
     ensures { ValueIsLettersUsed }
-{
-    0
-}
+{}
 
 // A set passes exactly when it holds every required letter and only allowed ones.
-pub fn passing_is_by_letters() -> u8
+pub fn passing_is_by_letters()
     ensures { PassingIsByLetters }
-{
-    0
-}
+{}

@@ -95,8 +95,6 @@ impl Measure for Machine {
 }
 
 // The value of a word, at each state, is the state that the machine reaches from there by reading the word letter by letter.
-pub fn value_is_reading() -> u8
+pub fn value_is_reading()
     ensures { ValueIsReading }
-{
-    0
-}
+{}

@@ -40,22 +40,16 @@ impl RuleRefusal {
 }
 
 // A rule that is added later changes nothing that was spelled before.
-pub fn later_rules_keep_spelling() -> u8
+pub fn later_rules_keep_spelling()
     ensures { LaterRulesKeepSpelling }
-{
-    0
-}
+{}
 
 // A letter's length is 1 for a to z, the sum for a pair and the product for a block.
-pub fn lengths_follow_rules() -> u8
+pub fn lengths_follow_rules()
     ensures { LengthsFollowRules }
-{
-    0
-}
+{}
 
 // What a known letter spells has only letters a to z.
-pub fn spelling_ends_in_a_to_z() -> u8
+pub fn spelling_ends_in_a_to_z()
     ensures { SpellingEndsInAToZ }
-{
-    0
-}
+{}

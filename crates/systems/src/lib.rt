@@ -129,64 +129,46 @@ impl From<RuleRefusal> for ChoiceRefusal {
 }
 
 // What crosses is an occurrence whose two letters come neither from one place nor from two letters in neighbouring places.
-pub fn crossing_is_an_occurrence() -> u8
+pub fn crossing_is_an_occurrence()
     ensures { CrossingIsAnOccurrence }
-{
-    0
-}
+{}
 
 // Whatever is loaded and chosen, the letters are known, the rules fit and the limits are kept.
-pub fn runs_are_well_formed() -> u8
+pub fn runs_are_well_formed()
     ensures { RunsAreWellFormed }
-{
-    0
-}
+{}
 
 // Each side of what stands, filled in and spelled, is the loaded side filled with the whole words.
-pub fn sound() -> u8
+pub fn sound()
     ensures { Sound }
-{
-    0
-}
+{}
 
 // Where no variable is live and the sides are the same, the popped letters spell a solution.
-pub fn sound_at_end() -> u8
+pub fn sound_at_end()
     ensures { SoundAtEnd }
-{
-    0
-}
+{}
 
 // A run whose taken choices fit a solution keeps it.
-pub fn complete() -> u8
+pub fn complete()
     ensures { Complete }
-{
-    0
-}
+{}
 
 // What stands is worked out from the calls alone.
-pub fn calls_decide_what_stands() -> u8
+pub fn calls_decide_what_stands()
     ensures { CallsDecideWhatStands }
-{
-    0
-}
+{}
 
 // The value of a made letter under any measure follows from its rule.
-pub fn values_follow_spelling<V>() -> u8
+pub fn values_follow_spelling<V>()
     ensures { ValuesFollowSpelling V }
-{
-    0
-}
+{}
 
 // The definitions at work on small systems.
-pub fn worked_examples() -> u8
+pub fn worked_examples()
     ensures { WorkedExamples }
-{
-    0
-}
+{}
 
 // What replacing pairs and blocks makes of every side.
-pub fn replacing_is_exact() -> u8
+pub fn replacing_is_exact()
     ensures { ReplacingIsExact }
-{
-    0
-}
+{}

@@ -18,11 +18,9 @@ use model::Rule;
 use std::ops::Range;
 
 // Whatever calls led to it, a witness keeps its limits, its letters are known and its variables rise.
-pub fn every_witness_is_valid() -> u8
+pub fn every_witness_is_valid()
     ensures { EveryWitnessIsValid }
-{
-    0
-}
+{}
 
 impl WitnessRefusal {
     // The refusal's number.
