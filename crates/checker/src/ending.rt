@@ -1,4 +1,5 @@
-// The reasons why a close does not accept.
+// The reasons why a close does not accept. (A kind and its table are passed as the caller lends them: a struct of both would be made and taken apart
+// again at each call of measure.)
 ghost use Rattle.std.specs.Prelude.{◌≡◌, ◌≤◌, false, IfErr, IsOk, Option, Some};
 ghost use Rattle.std.specs.Result.{result_err};
 ghost use Rattle.measure.specs.Tables.{Filled};

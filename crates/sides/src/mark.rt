@@ -12,7 +12,7 @@ pub(crate) const MOST_EQUATIONS: usize = 32;
 // The places, and the ends of two sides of each equation.
 const MOST_MARKS: usize = MOST_PLACES + 2 * MOST_EQUATIONS;
 
-// A place of a side, or the end of one.
+// A place of a side, or the end of one. (Not an Option of a place: an end is a mark that stands there, and nothing is missing.)
 #[derive(Clone, Copy, PartialEq, Eq, Debug)]
 pub enum Mark {
     End,

@@ -132,7 +132,7 @@ impl Stand {
         Ok(new)
     }
 
-    // Makes a letter for the pair ab, and puts it for each ab.
+    // Makes a letter for the pair ab, and puts it for each ab. (One method for each rule: as a parameter the pass would need its contract written out.)
     fn pair(&mut self, a: u16, b: u16) -> Result<(), ChoiceRefusal>
         ensures refusal { result_err result ≡ choice_refusal self.old (Choice.Pair a b) }
         ensures stands { self.new ≡ after_choice self.old (Choice.Pair a b) }

@@ -49,7 +49,7 @@ fn find(seats: &[Seat], letters: &[u16], variable: u8) -> Option<Range<usize>>
     None
 }
 
-// Reading a witness.
+// Reading a witness. Each refusal is promised by its number too, as in every call that refuses by number.
 impl Witness {
     // The rules, the oldest first.
     pub fn rules(&self) -> &[Rule]
