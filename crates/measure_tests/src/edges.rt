@@ -51,13 +51,16 @@ fn length_passes_from_least_to_most(rt: HostRuntime) -> Result<(), Fail> {
     Ok(())
 }
 
+// This number for Z, and 0 for each other variable.
+fn for_z(number: u32) -> [u32; 26] {
+    let mut all = [0; 26];
+    all[25] = number;
+    all
+}
+
 // The number of the refusal of these limits for Z, or 0.
 fn length_refusal(least: u32, most: u32) -> u8 {
-    let mut all_least = [0; 26];
-    let mut all_most = [0; 26];
-    all_least[25] = least;
-    all_most[25] = most;
-    Length::new(all_least, all_most)
+    Length::new(for_z(least), for_z(most))
         .err()
         .map_or(0, |refusal| refusal.number())
 }
@@ -88,11 +91,7 @@ fn letters_required_and_allowed(rt: HostRuntime) -> Result<(), Fail> {
 
 // The number of the refusal of these sets for Z, or 0.
 fn set_refusal(required: u32, allowed: u32) -> u8 {
-    let mut all_required = [0; 26];
-    let mut all_allowed = [0; 26];
-    all_required[25] = required;
-    all_allowed[25] = allowed;
-    LettersUsed::new(all_required, all_allowed)
+    LettersUsed::new(for_z(required), for_z(allowed))
         .err()
         .map_or(0, |refusal| refusal.number())
 }
