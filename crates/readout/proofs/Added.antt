@@ -1,7 +1,7 @@
 -- Text added behind text, and the rows of a table. Assumes nothing.
-use Rattle.std.proofs.Common.{◌≡◌, ℕ, ◌+◌, ◌<◌, ◌≤◌, min, ltb, leb, cond, [], ◌∷◌, ◌++◌, length, take, Some, None, Ok, Err, codes, decimal, Option, sym, refl, ap, ◌∙◌, ⊎_elim, arith}
-use Rattle.std.proofs.lemmas.List.{take_all}
-use Rattle.std.proofs.lemmas.Bool.{cond-true, le-leb, cases_lt}
+use Rattle.std.proofs.Common.{◌≡◌, ℕ, ◌+◌, ◌≤◌, min, ltb, leb, cond, [], ◌∷◌, ◌++◌, length, take, Some, None, Ok, Err, codes, decimal, Option, sym, refl, ap, ◌∙◌, arith}
+use Rattle.std.proofs.lemmas.List.{take_min}
+use Rattle.std.proofs.lemmas.Bool.{cond-true, le-leb}
 use Rattle.model.specs.Spelling.{Word}
 use Rattle.text.specs.Names.{variable_name}
 use Rattle.text.specs.Pieces.{Bytes}
@@ -20,22 +20,15 @@ row_told x o n e =
     let t = length_told o n e in
     ap (row x) t.1 ∙ ap (λ k. variable_name x ++ (codes " " ++ (decimal k ++ (codes " " ++ (beginning t.0 ++ codes "\n"))))) (sym t.2) ∙ ap (λ p. variable_name x ++ (codes " " ++ (decimal n ++ (codes " " ++ (shown p ++ codes "\n"))))) (sym t.1)
 
-take_min : (k : ℕ) (w : Word) → take (min (length w) k) w ≡ take k w
-take_min k w =
-    ⊎_elim
-    (λ (lt : length w < k). let is : min (length w) k ≡ length w = omega arith in ap (λ n. take n w) is ∙ take_all (length w) w (omega arith) ∙ sym (take_all k w (omega arith)))
-    (λ (ge : k ≤ length w). let is : min (length w) k ≡ k = omega arith in ap (λ n. take n w) is)
-    (cases_lt (length w) k)
-
 -- the letters that are shown, with ... where the word goes on
-pub shown_told : (o : Option Word) (n m : ℕ) (letters : Bytes) → Ok n ≡ length_answer o → m ≡ min n 64 → (n ≡ 0 → ⊥) → letters_answer o 0 m ≡ Ok letters → shown o ≡ letters ++ cond (ltb 64 n) (codes "...") []
-shown_told None n m letters e few some put = absurd (let z : ◌≡◌ {A = ℕ} 0 1 = cc in omega arith)
-shown_told (Some []) n m letters e few some put = absurd (let z : n ≡ 0 = cc in some z)
-shown_told (Some (a ∷ w)) n m letters e few some put =
+pub shown_told : (o : Option Word) (x n m : ℕ) (letters : Bytes) → Ok n ≡ length_answer o → m ≡ min n 64 → (n ≡ 0 → ⊥) → letters_answer o (record { variable = x; start = 0; count = m }) ≡ Ok letters → shown o ≡ letters ++ cond (ltb 64 n) (codes "...") []
+shown_told None x n m letters e few some put = absurd (let z : ◌≡◌ {A = ℕ} 0 1 = cc in omega arith)
+shown_told (Some []) x n m letters e few some put = absurd (let z : n ≡ 0 = cc in some z)
+shown_told (Some (a ∷ w)) x n m letters e few some put =
     let whole : n ≡ length (a ∷ w) = cc in
     let fits : 0 + m ≤ length (a ∷ w) = omega arith in
-    let front : letters_answer (Some (a ∷ w)) 0 m ≡ Ok (as_text (take m (a ∷ w))) = cond-true (leb (0 + m) (length (a ∷ w))) (Ok (as_text (take m (a ∷ w)))) (Err PastWord) (le-leb (0 + m) (length (a ∷ w)) fits) in
+    let front : letters_answer (Some (a ∷ w)) (record { variable = x; start = 0; count = m }) ≡ Ok (as_text (take m (a ∷ w))) = cond-true (leb (0 + m) (length (a ∷ w))) (Ok (as_text (take m (a ∷ w)))) (Err PastWord) (le-leb (0 + m) (length (a ∷ w)) fits) in
     let same : letters ≡ as_text (take m (a ∷ w)) = cc in
-    let least : m ≡ min (length (a ∷ w)) 64 = few ∙ ap (λ k. min k 64) whole in
+    let least : m ≡ min 64 (length (a ∷ w)) = omega arith in
     let short : letters ≡ as_text (take 64 (a ∷ w)) = same ∙ ap (λ k. as_text (take k (a ∷ w))) least ∙ ap as_text (take_min 64 (a ∷ w)) in
     (λ i. sym short i ++ cond (ltb 64 (sym whole i)) (codes "...") [])

@@ -8,9 +8,9 @@ use Rattle.readout.specs.declared.request.Request.TheVariants.{Table, Stretch}
 -- the start is below 10^16, and at most 1,000,000 letters are asked for
 abbrev pub Askable : Request → Type 0
 Askable Table = ⊥
-Askable (Stretch x start count) = (x < 26) × (start < 10 ^ 16) × (count ≤ 1000000)
+Askable (Stretch s) = (s.variable < 26) × (s.start < 10 ^ 16) × (s.count ≤ 1000000)
 
 -- a variable, the start and the count
 abbrev pub three_words : Request → Bytes × Bytes × Bytes
 three_words Table = ([], [], [])
-three_words (Stretch x start count) = (variable_name x, decimal start, decimal count)
+three_words (Stretch s) = (variable_name s.variable, decimal s.start, decimal s.count)

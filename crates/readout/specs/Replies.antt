@@ -10,7 +10,8 @@ use Rattle.witness.specs.Answers.{as_text}
 use Rattle.listing.specs.declared.refusals.ReadRefusal.{ReadRefusal}
 use Rattle.listing.specs.declared.refusals.ReadRefusal.TheVariants.{NotListing}
 use Rattle.readout.specs.declared.request.Request.{Request}
-use Rattle.readout.specs.declared.request.Request.TheVariants.{Table, Stretch}
+use Rattle.readout.specs.declared.request.Request.TheVariants.{Table, Stretch as StretchRequest}
+use Rattle.readout.specs.declared.request.Stretch.{Stretch}
 use Rattle.readout.specs.Rows.{table}
 
 -- a refusal by its number, with the line and a detail
@@ -28,15 +29,15 @@ Said = Result Bytes Bytes
 abbrev pub named : ℕ → Bytes
 named x = cond (nat_lt x 26) (variable_name x) (codes "-")
 
--- of the word that a variable's word spells: so many letters from a place on
-abbrev pub stretch : ℕ → Option Word → ℕ → ℕ → Said
-stretch x None start count = Err (refusal_text 61 0 (named x))
-stretch x (Some w) start count = cond (nat_le (start + count) (length w)) (Ok (as_text (take count (drop start w)) ++ codes "\n")) (Err (refusal_text 62 0 (named x)))
+-- of the word that a variable's word spells: the letters of a stretch
+abbrev pub stretch_said : Option Word → Stretch → Said
+stretch_said None s = Err (refusal_text 61 0 (named s.variable))
+stretch_said (Some w) s = cond (nat_le (s.start + s.count) (length w)) (Ok (as_text (take s.count (drop s.start w)) ++ codes "\n")) (Err (refusal_text 62 0 (named s.variable)))
 
 -- of a listing of these contents
 abbrev pub said : Request → Contents → Said
 said Table c = Ok (table c)
-said (Stretch x start count) c = stretch x (spelled c x) start count
+said (StretchRequest s) c = stretch_said (spelled c s.variable) s
 
 -- of any input: what the listing says, or the first line that no listing has there
 abbrev pub Replied : Request → Bytes → Said → Type 0

@@ -5,6 +5,7 @@ ghost use Rattle.witness.specs.Holding.{contents_of};
 ghost use Rattle.readout.specs.Rows.{row, shown, table};
 ghost use Rattle.readout.specs.Stretches.{letters_answer};
 
+use crate::request::Stretch;
 use std::alloc::{AllocError, Global};
 use witness::{Witness, WitnessRefusal};
 
@@ -15,16 +16,14 @@ const SHOWN: u64 = 64;
 pub(crate) fn letters_of(
     heap: Global,
     witness: &Witness,
-    variable: u8,
-    start: u64,
-    count: usize,
+    stretch: Stretch,
 ) -> Result<Result<Vec<u8>, WitnessRefusal>, AllocError>
     ensures { IfOk result (λ r. MatchResult r
-        (λ letters. letters_answer (spelled (contents_of witness.now) variable) start count ≡ Ok letters.items)
-        (λ e. letters_answer (spelled (contents_of witness.now) variable) start count ≡ Err e)) }
+        (λ letters. letters_answer (spelled (contents_of witness.now) stretch.variable) stretch ≡ Ok letters.items)
+        (λ e. letters_answer (spelled (contents_of witness.now) stretch.variable) stretch ≡ Err e)) }
 {
-    let mut letters = vec![in heap; 0; count]?;
-    let filled = witness.fill(variable, start, letters.as_mut_slice());
+    let mut letters = vec![in heap; 0; stretch.count]?;
+    let filled = witness.fill(stretch.variable, stretch.start, letters.as_mut_slice());
     Ok(filled.map(|()| letters))
 }
 
@@ -42,7 +41,12 @@ fn add_beginning(
         return out.extend_from_slice(b"-");
     }
     let heap = *out.allocator();
-    let letters = letters_of(heap, witness, variable, 0, total.min(SHOWN) as usize)?.unwrap();
+    let beginning = Stretch {
+        variable,
+        start: 0,
+        count: total.min(SHOWN) as usize,
+    };
+    let letters = letters_of(heap, witness, beginning)?.unwrap();
     out.extend_from_slice(letters.as_slice())?;
     if total > SHOWN {
         out.extend_from_slice(b"...")?;

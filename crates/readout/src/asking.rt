@@ -1,7 +1,7 @@
 ghost use Rattle.text.specs.Reading.{Reads};
 ghost use Rattle.readout.specs.Asking.{Askable, three_words};
 
-use crate::request::Request;
+use crate::request::{Request, Stretch};
 use text::{number, variable};
 
 // No more letters may be asked for at once.
@@ -17,9 +17,9 @@ pub fn stretch_request(name: &[u8], start: &[u8], count: &[u8]) -> Option<Reques
     if count > MOST_LETTERS {
         return None;
     }
-    Some(Request::Stretch {
+    Some(Request::Stretch(Stretch {
         variable,
         start,
         count: count as usize,
-    })
+    }))
 }

@@ -9,4 +9,4 @@ mod request;
 
 pub use asking::stretch_request;
 pub use replying::{Reply, reply_to};
-pub use request::Request;
+pub use request::{Request, Stretch};

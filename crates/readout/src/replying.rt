@@ -2,10 +2,10 @@ ghost use Rattle.std.specs.Prelude.{◌≡◌, ◌<◌, [], ◌∷◌, IfOk, Mat
 ghost use Rattle.listing.specs.Refusals.{read_number};
 ghost use Rattle.model.specs.Witnesses.{spelled};
 ghost use Rattle.witness.specs.Holding.{contents_of};
-ghost use Rattle.readout.specs.Replies.{Replied, named, refusal_text, refused_line, said, stretch};
+ghost use Rattle.readout.specs.Replies.{Replied, named, refusal_text, refused_line, said, stretch_said};
 
 use crate::adding::{letters_of, table_of};
-use crate::request::Request;
+use crate::request::{Request, Stretch};
 use listing::{ReadRefusal, read};
 use std::alloc::{AllocError, Global};
 use witness::Witness;
@@ -39,24 +39,18 @@ fn text_of_refusal(
 }
 
 // A stretch of a variable's word with a newline, or why it is not to be had.
-fn stretch_reply(
-    heap: Global,
-    witness: &Witness,
-    variable: u8,
-    start: u64,
-    count: usize,
-) -> Result<Reply, AllocError>
+fn stretch_reply(heap: Global, witness: &Witness, stretch: Stretch) -> Result<Reply, AllocError>
     ensures { IfOk result (λ reply. MatchResult reply
-        (λ text. stretch variable (spelled (contents_of witness.now) variable) start count ≡ Ok text.items)
-        (λ text. stretch variable (spelled (contents_of witness.now) variable) start count ≡ Err text.items)) }
+        (λ text. stretch_said (spelled (contents_of witness.now) stretch.variable) stretch ≡ Ok text.items)
+        (λ text. stretch_said (spelled (contents_of witness.now) stretch.variable) stretch ≡ Err text.items)) }
 {
-    match letters_of(heap, witness, variable, start, count)? {
+    match letters_of(heap, witness, stretch)? {
         Ok(mut text) => {
             text.extend_from_slice(b"\n")?;
             Ok(Ok(text))
         }
         Err(refusal) => {
-            let text = text_of_refusal(heap, refusal.number(), 0, name_of(variable))?;
+            let text = text_of_refusal(heap, refusal.number(), 0, name_of(stretch.variable))?;
             Ok(Err(text))
         }
     }
@@ -70,11 +64,7 @@ fn witness_reply(heap: Global, witness: &Witness, request: Request) -> Result<Re
 {
     match request {
         Request::Table => Ok(Ok(table_of(heap, witness)?)),
-        Request::Stretch {
-            variable,
-            start,
-            count,
-        } => stretch_reply(heap, witness, variable, start, count),
+        Request::Stretch(stretch) => stretch_reply(heap, witness, stretch),
     }
 }
 

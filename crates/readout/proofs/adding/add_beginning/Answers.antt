@@ -10,6 +10,6 @@ use Rattle.readout.proofs.adding.add_beginning.Goals as goal
 pub returns : goal.returns
 returns c =
     let letters = MatchResult-at_ok _ _ _ c.unwrap-letters.ensures c.in_ok-letters_of.ensures in
-    let told = shown_told (spelled (contents_of c.args.witness.now) c.args.variable) c.args.total c.min.result _ (sym c.requires) c.min.ensures c.if-total-eq0.false letters in
+    let told = shown_told (spelled (contents_of c.args.witness.now) c.args.variable) c.args.variable c.args.total c.min.result _ (sym c.requires) c.min.ensures c.if-total-eq0.false letters in
     let items = c.as_slice.ensures.value in
     grind (arith, common_steps, nat_tests, told)

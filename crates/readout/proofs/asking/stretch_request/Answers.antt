@@ -8,9 +8,9 @@ use Rattle.readout.proofs.asking.stretch_request.Goals as goal
 
 too_many : (name start count : Bytes) (n : ℕ) → 1000000 < n → n < 10 ^ 16 → count ≡ decimal n → (request : Request) → Askable request → (name, start, count) ≡ three_words request → ⊥
 too_many name start count n many few is Table ok e = ok
-too_many name start count n many few is (Stretch x s k) ok e =
-    let under : k ≤ 1000000 = ok.2 in
-    let same : n ≡ k = decimal_injective n k (omega arith) (omega arith) (sym is ∙ ap (λ w. w.2) e) in
+too_many name start count n many few is (Stretch s) ok e =
+    let under : s.count ≤ 1000000 = ok.2 in
+    let same : n ≡ s.count = decimal_injective n s.count (omega arith) (omega arith) (sym is ∙ ap (λ w. w.2) e) in
     omega arith
 
 pub returns-then-count-gt-MOST_LETTERS : goal.returns-then-count-gt-MOST_LETTERS
