@@ -32,6 +32,7 @@ impl System {
     }
 
     // Takes one more equation, its two sides as text with a to z for letters and A to Z for variables; or says why not and changes nothing.
+    // (The sides stay two parameters, here and below, as a caller has them.)
     pub fn load(&mut self, left: &[u8], right: &[u8]) -> Result<(), LoadRefusal>
         ensures refusal { result_err result ≡ load_refusal (loading self.old) left.now right.now }
         ensures number { option_map load_number (result_err result) ≡ option_map load_number (load_refusal (loading self.old) left.now right.now) }

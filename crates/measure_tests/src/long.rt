@@ -16,6 +16,7 @@ fn counts_every_letter(rt: HostRuntime) -> Result<(), Fail> {
     let kind = Length::new([0; 26], [1_000_000; 26])?;
     for n in LONG {
         let word = mixed_word(heap, n)?;
+        // a cast, since there is no From of a u32 to usize
         assert_eq!(rt;
             value_of(heap, &kind, &[], word.as_slice())?.count as usize,
             n
@@ -50,7 +51,7 @@ fn reads_letter_by_letter(rt: HostRuntime) -> Result<(), Fail> {
         for start in 0..8 {
             let mut state = start;
             for letter in word.as_slice() {
-                state = next[state % 8 * 26 + *letter as usize % 26] as usize;
+                state = next[state % 8 * 26 + usize::from(*letter) % 26] as usize;
             }
             assert_eq!(rt; value.to[start] as usize, state);
         }

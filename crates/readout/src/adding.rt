@@ -12,7 +12,8 @@ use witness::{Witness, WitnessRefusal};
 // How many letters of a word a table shows.
 const SHOWN: u64 = 64;
 
-// So many letters of what a variable's word spells, from a place on; or why they are not to be had.
+// The letters of a stretch of what a variable's word spells; or why they are not to be had. (A witness and a variable stay two parameters below: a
+// struct of them would be made for each row and read by one call.)
 pub(crate) fn letters_of(
     heap: Global,
     witness: &Witness,
@@ -44,6 +45,7 @@ fn add_beginning(
     let beginning = Stretch {
         variable,
         start: 0,
+        // a cast, since there is no From to usize; it is at most 64
         count: total.min(SHOWN) as usize,
     };
     let letters = letters_of(heap, witness, beginning)?.unwrap();

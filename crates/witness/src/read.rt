@@ -121,7 +121,7 @@ impl Witness {
         Ok(letter_at(&self.made, self.letters.as_slice()[spot.index], spot.skip))
     }
 
-    // Fills a buffer with the letters a to z of what a variable's word spells, from a place on.
+    // Fills a buffer with the letters a to z of what a variable's word spells, from a place on. (A cast of its length, since there is no From to u64.)
     pub fn fill(&self, variable: u8, start: u64, buffer: &mut [u8]) -> Result<(), WitnessRefusal>
         ensures answer { result ≡ fill_answer (spelled (contents_of self.now) variable) start (length buffer.old) }
         ensures number { IfErr result (λ e. witness_number e ≡ refusal_number (spelled (contents_of self.now) variable)) }

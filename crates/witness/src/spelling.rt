@@ -16,7 +16,7 @@ pub(crate) struct Spot {
     pub(crate) skip: u64,
 }
 
-// How many letters a rule puts in a row.
+// How many letters a rule puts in a row. (Here and below a cast to usize, since there is no From for it; the proof shows that the number fits.)
 fn count(rule: Rule) -> usize
     ensures { result ≡ length (parts rule) }
 {
