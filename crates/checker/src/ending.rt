@@ -49,6 +49,7 @@ impl Check {
     }
 
     // The first variable of the system, from A, whose word does not pass.
+    // (A `for` that stops: the closure of a `find` would have to be told what the table holds.)
     pub(crate) fn first_failing<K: Measure>(&self, kind: &K, table: &[K::Value]) -> Option<u8>
         requires { let k = kind.now in Filled (K.single k) (K.nothing k) (K.joined k) (standing self.now).rules table.now }
         ensures { let k = kind.now in result ≡ first (does_fail (meaning (K.single k) (K.nothing k) (K.joined k) (K.passed k)) (system_of self.now) (standing self.now)) variables }

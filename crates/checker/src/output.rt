@@ -11,7 +11,7 @@ use crate::store::Check;
 use measure::variable::Variable;
 use witness::Witness;
 
-// Adds letters to the newest word.
+// Adds letters to the newest word. (That a word is begun stays a clause: a type for it would be a second witness.)
 fn add_letters(witness: &mut Witness, word: &[u16])
     requires started { 0 < length (contents_of witness.old).entries }
     requires below { all_below (known (contents_of witness.old).rules) word.now ≡ true }

@@ -29,7 +29,8 @@ impl LengthRefusal {
     }
 }
 
-// The least and the most letters that a word may have, for each variable. Two arrays, since callers hand them over so and the contract of `new` names both.
+// The least and the most letters that a word may have, for each variable. Two arrays, since callers hand them over so and the contract of `new`
+// names both.
 #[derive(Clone, Copy)]
 pub struct Length {
     least: [u32; VARIABLES],

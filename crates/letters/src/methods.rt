@@ -8,7 +8,7 @@ use model::{Rule, RuleRefusal};
 use reserved::Reserved;
 use std::alloc::{AllocError, Global};
 
-// A block has as many letters as lie between these two.
+// A block repeats its letter at least and at most so many times.
 const LEAST_COUNT: u32 = 2;
 
 const MOST_COUNT: u32 = 1_000_000;
@@ -92,6 +92,7 @@ impl Letters {
         }
     }
 
+    // The same of a pair.
     fn judge_pair(&self, a: u16, b: u16) -> Result<u64, RuleRefusal>
         ensures { MatchResult result
             (λ n. (rule_refusal (rules_of self.now) (Rule.Pair a b) ≡ None) × (n ≡ made_length (rules_of self.now) (Rule.Pair a b)))
@@ -105,6 +106,7 @@ impl Letters {
         self.room(first + second)
     }
 
+    // The same of a block.
     fn judge_block(&self, a: u16, count: u32) -> Result<u64, RuleRefusal>
         ensures { MatchResult result
             (λ n. (rule_refusal (rules_of self.now) (Rule.Block a count) ≡ None) × (n ≡ made_length (rules_of self.now) (Rule.Block a count)))

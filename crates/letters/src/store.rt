@@ -9,7 +9,8 @@ use reserved::Reserved;
 pub(crate) const MOST_RULES: usize = 512;
 
 // The rules, the oldest first, and the length of what each rule's letter spells.
-// The lengths stand in a list of their own, since the rules are lent as one slice. That the rules fit is said by a ghost field and not hidden in a model,
+// The lengths stand in a list of their own, since the rules are lent as one slice. That the rules fit is said by a ghost field and not hidden in a
+// model,
 // so that whoever holds letters has it.
 #[derive(Drop)]
 pub struct Letters {

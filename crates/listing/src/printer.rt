@@ -4,7 +4,9 @@ ghost use Rattle.listing.specs.Printing.{Printed, Room};
 
 use itoa::Buffer;
 
-// The caller's buffer, and the place behind what is printed.
+// The caller's buffer, and the place behind what is printed. (The buffer is lent, so that printing needs no memory; the library's writers promise no
+// bytes
+// of a slice.)
 #[derive(Drop)]
 pub(crate) struct Printer<'a> {
     pub(crate) out: &'a mut [u8],

@@ -54,7 +54,7 @@ fn read_lines(witness: &mut Witness, text: &[u8]) -> Result<(), usize>
     let mut stage = Stage::Opening;
     let mut rest = text;
     let mut line = 1;
-    // `take_field` and no `for` over a `split`, whose last piece, behind the last newline, is no line.
+    // `take_field` and no `for`: the last piece of a `split`, behind the last newline, is no line, and `split_inclusive` says nothing of its pieces.
     while !rest.is_empty() {
         let Some((bytes, after)) = take_field(rest, b'\n') else {
             return Err(line);

@@ -5,7 +5,8 @@ ghost use Rattle.listing.specs.Words.{NotPushed, NotWorded, Pushed, Worded};
 use text::letter;
 use witness::Witness;
 
-// Adds the letter that the piece names to the newest word, if it may come next. (That a word is begun stays a clause: a type for it would be a second witness.)
+// Adds the letter that the piece names to the newest word, if it may come next. (That a word is begun stays a clause: a type for it would be a
+// second witness.)
 fn push_piece(witness: &mut Witness, piece: &[u8]) -> Option<()>
     requires { 0 < length (contents_of witness.old).entries }
     ensures { MatchOption result

@@ -35,7 +35,8 @@ impl MachineRefusal {
     }
 }
 
-// The next state after the letter a in the state s, at 26 * s + a, as callers hand them over; and the set of states in which a word may end, for each variable.
+// The next state after the letter a in the state s, at 26 * s + a, as callers hand them over; and the set of states in which a word may end, for
+// each variable.
 #[derive(Clone, Copy)]
 pub struct Machine {
     next: [u8; MOVES],

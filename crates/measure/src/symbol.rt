@@ -17,14 +17,14 @@ pub struct SmallLetters;
 pub struct Capitals;
 
 // One of the 26 symbols of an alphabet.
-#[derive_where(PartialEq, Eq, Debug)]
+#[derive_where(Copy, PartialEq, Eq, Debug)]
 pub struct Symbol<A> {
     number: u8,
     alphabet: PhantomData<A>,
     ghost ok: { number < 26 },
 }
 
-// Written out, since a derive of a generic type refuses its ghost field.
+// Written out, since Clone cannot be derived for a struct of a type parameter that has a ghost field.
 impl<A> Clone for Symbol<A> {
     ghost is_clone = { λ s t. t ≡ s };
 
@@ -34,9 +34,6 @@ impl<A> Clone for Symbol<A> {
         Ok(*self)
     }
 }
-
-// Whatever the alphabet's marker is.
-impl<A> Copy for Symbol<A> {}
 
 impl<A> Symbol<A> {
     // The symbol of this number, if there is one.

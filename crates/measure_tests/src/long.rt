@@ -48,12 +48,13 @@ fn reads_letter_by_letter(rt: HostRuntime) -> Result<(), Fail> {
     for n in LONG {
         let word = mixed_word(heap, n)?;
         let value = value_of(heap, &kind, &[], word.as_slice())?;
-        for start in 0..8 {
+        for (start, reached) in value.to.iter().enumerate() {
             let mut state = start;
             for letter in word.as_slice() {
-                state = next[state % 8 * 26 + usize::from(*letter) % 26] as usize;
+                // 26 next states for each state, as a machine is handed over
+                state = usize::from(next[state % 8 * 26 + usize::from(*letter) % 26]);
             }
-            assert_eq!(rt; value.to[start] as usize, state);
+            assert_eq!(rt; usize::from(*reached), state);
         }
     }
     Ok(())

@@ -9,7 +9,7 @@ pub struct Stretch {
     pub count: usize,
 }
 
-// What is asked of a listing.
+// What is asked of a listing. (Not an Option of a stretch: the table is asked for, and nothing is missing.)
 #[derive(Clone, Copy, PartialEq, Eq, Debug)]
 pub enum Request {
     // each variable with the length of its word and the first letters

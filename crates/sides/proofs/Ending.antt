@@ -10,7 +10,7 @@ use Rattle.systems.specs.Sides.{Side, Equation, is_variable, stands_in}
 use Rattle.sides.specs.declared.mark.Mark.{Mark}
 use Rattle.sides.specs.declared.mark.Mark.TheVariants.{End, At}
 use Rattle.sides.specs.Marks.{lifted, equations_in, marks_of, Whole}
-use Rattle.sides.specs.Seeking.{First, variable_at, is_end}
+use Rattle.sides.specs.Seeking.{First, any_variable_at, is_end}
 use Rattle.sides.proofs.Flat.{live_count, count_some}
 
 -- the same tests, the same first
@@ -35,22 +35,22 @@ first_at x = (eq-eqb x x refl, λ y lt. ne_eqb y x (λ d. omega arith))
 abbrev stands : ℕ → List Mark → Bool
 stands y = any (lifted (is_variable y))
 
-first_further : (ms : List Mark) (z : ℕ) (f : ℕ → Bool) → First (Some z) f → First (Some (fold min z (filter_map variable_at ms))) (λ y. f y || stands y ms)
+first_further : (ms : List Mark) (z : ℕ) (f : ℕ → Bool) → First (Some z) f → First (Some (fold min z (filter_map any_variable_at ms))) (λ y. f y || stands y ms)
 first_further [] z f h = first_same (Some z) f (λ y. f y || false) (λ y. sym (or-false (f y))) h
 first_further (End ∷ ms) z f h = first_further ms z f h
 first_further (At (Letter a) ∷ ms) z f h = first_further ms z f h
 first_further (At (Variable x) ∷ ms) z f h =
-    first_same (Some (fold min (min z x) (filter_map variable_at ms))) (λ y. (f y || eqb y x) || stands y ms) (λ y. f y || (eqb y x || stands y ms)) (λ y. or_assoc (f y) (eqb y x) (stands y ms))
+    first_same (Some (fold min (min z x) (filter_map any_variable_at ms))) (λ y. (f y || eqb y x) || stands y ms) (λ y. f y || (eqb y x || stands y ms)) (λ y. or_assoc (f y) (eqb y x) (stands y ms))
     (first_further ms (min z x) (λ y. f y || eqb y x) (first_min z x f h))
 
-first_least : (ms : List Mark) → First (reduce min (filter_map variable_at ms)) (λ y. stands y ms)
+first_least : (ms : List Mark) → First (reduce min (filter_map any_variable_at ms)) (λ y. stands y ms)
 first_least [] = λ y. refl
 first_least (End ∷ ms) = first_least ms
 first_least (At (Letter a) ∷ ms) = first_least ms
 first_least (At (Variable x) ∷ ms) = first_further ms x (λ y. eqb y x) (first_at x)
 
-pub first_live : (ms : List Mark) → Whole ms → First (reduce min (filter_map variable_at ms)) (stands_in (equations_in ms))
-first_live ms h = first_same (reduce min (filter_map variable_at ms)) (λ y. stands y ms) (stands_in (equations_in ms)) (λ y. count_some y ms ∙ sym (live_count y ms h)) (first_least ms)
+pub first_live : (ms : List Mark) → Whole ms → First (reduce min (filter_map any_variable_at ms)) (stands_in (equations_in ms))
+first_live ms h = first_same (reduce min (filter_map any_variable_at ms)) (λ y. stands y ms) (stands_in (equations_in ms)) (λ y. count_some y ms ∙ sym (live_count y ms h)) (first_least ms)
 
 -- sides at the front of marks
 

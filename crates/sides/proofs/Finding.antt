@@ -8,22 +8,22 @@ use Rattle.systems.specs.Sides.{is_variable}
 use Rattle.sides.specs.declared.mark.Mark.{Mark}
 use Rattle.sides.specs.declared.mark.Mark.TheVariants.{End, At}
 use Rattle.sides.specs.Marks.{lifted}
-use Rattle.sides.specs.Seeking.{variable_at}
+use Rattle.sides.specs.Seeking.{any_variable_at}
 
 -- a variable that is found stands there
-pub at_some : (m : Mark) (x : ℕ) → Some x ≡ variable_at m → m ≡ At (Variable x)
+pub at_some : (m : Mark) (x : ℕ) → Some x ≡ any_variable_at m → m ≡ At (Variable x)
 at_some End x e = cc
 at_some (At (Letter a)) x e = cc
 at_some (At (Variable y)) x e = cc
 
 -- and no other does
-pub at_other : (m : Mark) (x y : ℕ) → Some x ≡ variable_at m → y ≢ x → lifted (is_variable y) m ≡ false
+pub at_other : (m : Mark) (x y : ℕ) → Some x ≡ any_variable_at m → y ≢ x → lifted (is_variable y) m ≡ false
 at_other End x y e ne = refl
 at_other (At (Letter a)) x y e ne = refl
 at_other (At (Variable z)) x y e ne = ne_eqb y z (λ d. ne cc)
 
 -- where none is found, none stands
-pub at_none : (m : Mark) (y : ℕ) → None ≡ variable_at m → lifted (is_variable y) m ≡ false
+pub at_none : (m : Mark) (y : ℕ) → None ≡ any_variable_at m → lifted (is_variable y) m ≡ false
 at_none End y e = refl
 at_none (At (Letter a)) y e = refl
 at_none (At (Variable x)) y e = cc

@@ -17,10 +17,10 @@ FirstUnequal None equations = AllByRecursion SameSides equations
 FirstUnequal (Some k) equations = (1 ≤ k) × (k ≤ length equations) × AllByRecursion SameSides (take (k - 1) equations) × (SameSides (slice_index_or equations (k - 1) ([], [])) → ⊥)
 
 -- the variable that stands here
-abbrev pub variable_at : Mark → Option ℕ
-variable_at End = None
-variable_at (At (Letter a)) = None
-variable_at (At (Variable x)) = Some x
+abbrev pub any_variable_at : Mark → Option ℕ
+any_variable_at End = None
+any_variable_at (At (Letter a)) = None
+any_variable_at (At (Variable x)) = Some x
 
 -- an end of a side stands here
 abbrev pub is_end : Mark → Bool

@@ -4,7 +4,7 @@ ghost use Rattle.std.specs.List.{after_first, before_first, filter_map, position
 ghost use Rattle.systems.specs.Rows.{any};
 ghost use Rattle.systems.specs.Sides.{is_variable};
 ghost use Rattle.sides.specs.Marks.{lifted, Whole, equations_in};
-ghost use Rattle.sides.specs.Seeking.{variable_at, is_end, FirstUnequal};
+ghost use Rattle.sides.specs.Seeking.{any_variable_at, is_end, FirstUnequal};
 
 use crate::mark::Mark;
 use systems::Place;
@@ -14,7 +14,7 @@ const Z: u8 = 25;
 
 // The variable that stands here.
 fn variable(mark: Mark) -> Option<u8>
-    ensures { result ≡ variable_at mark }
+    ensures { result ≡ any_variable_at mark }
 {
     match mark {
         Mark::At(Place::Variable(x)) => Some(x),
@@ -24,7 +24,7 @@ fn variable(mark: Mark) -> Option<u8>
 
 // The least variable that stands in a place.
 pub(crate) fn least_variable(marks: &[Mark]) -> Option<u8>
-    ensures { result ≡ reduce min (filter_map variable_at marks.now) }
+    ensures { result ≡ reduce min (filter_map any_variable_at marks.now) }
 {
     marks.iter().filter_map(|mark| variable(*mark)).min()
 }

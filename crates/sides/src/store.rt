@@ -62,6 +62,7 @@ impl Sides {
     pub fn len(&self) -> usize
         ensures value { result ≡ places self.now }
         ensures bound { result ≤ 2048 }
+        ensures few { length self.now ≤ 32 }
     {
         self.marks.len() - 2 * self.number
     }

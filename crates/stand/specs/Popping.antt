@@ -1,8 +1,9 @@
 -- Parts of what a choice does: a letter popped, a rule made. Assumes nothing.
 use Rattle.std.specs.Prelude.{◌≡◌, ℕ, ◌<◌, cond, [], ◌∷◌, ◌++◌, length, Some, None, Option, nat_lt}
 use Rattle.model.specs.declared.Rule.{Rule}
+use Rattle.model.specs.declared.Rule.TheVariants.{Pair, Block}
 use Rattle.systems.specs.declared.Choice.{Choice}
-use Rattle.systems.specs.declared.Choice.TheVariants.{Left, Right}
+use Rattle.systems.specs.declared.Choice.TheVariants.{Left, Right, Pair as PairChoice, Block as BlockChoice}
 use Rattle.systems.specs.declared.ChoiceRefusal.{ChoiceRefusal}
 use Rattle.systems.specs.declared.ChoiceRefusal.TheVariants.{TooManyPlaces}
 use Rattle.systems.specs.declared.Pop.{Pop}
@@ -21,6 +22,11 @@ RefusesBeforePlaces S x a None = ((n : ℕ) → pop_refusal S x a n ≡ cond (na
 abbrev pub popping : Pop → Choice
 popping (AtLeft x a) = Left x a
 popping (AtRight x a) = Right x a
+
+-- the choice that makes a letter by this rule
+abbrev pub joining : Rule → Choice
+joining (Pair a b) = PairChoice a b
+joining (Block a n) = BlockChoice a n
 
 -- what stands with a row for x and one more pop
 abbrev pub with_pop : Standing → ℕ → Side → Pop → Standing

@@ -5,7 +5,7 @@ ghost use Rattle.model.specs.Witnesses.{rule_refusal, rules_fit};
 ghost use Rattle.systems.specs.Loading.{after_load, load_refusal};
 ghost use Rattle.systems.specs.Refusals.{after_choice, choice_number, choice_refusal, load_number, of_rule};
 ghost use Rattle.systems.specs.Standings.{fresh, new as nothing_loaded};
-ghost use Rattle.stand.specs.Popping.{RefusesBeforePlaces, popping, with_rule};
+ghost use Rattle.stand.specs.Popping.{RefusesBeforePlaces, joining, popping, with_rule};
 
 use letters::Letters;
 use model::Rule;
@@ -132,23 +132,16 @@ impl Stand {
         Ok(new)
     }
 
-    // Makes a letter for the pair ab, and puts it for each ab. (One method for each rule: as a parameter the pass would need its contract written out.)
-    fn pair(&mut self, a: u16, b: u16) -> Result<(), ChoiceRefusal>
-        ensures refusal { result_err result ≡ choice_refusal self.old (Choice.Pair a b) }
-        ensures stands { self.new ≡ after_choice self.old (Choice.Pair a b) }
+    // Makes a letter by a rule, and puts it for each place of what the rule joins.
+    fn join(&mut self, rule: Rule) -> Result<(), ChoiceRefusal>
+        ensures refusal { result_err result ≡ choice_refusal self.old (joining rule) }
+        ensures stands { self.new ≡ after_choice self.old (joining rule) }
     {
-        let new = self.make(Rule::Pair(a, b))?;
-        self.sides.replace_pairs(a, b, new);
-        Ok(())
-    }
-
-    // Makes a letter for n times a, and puts it for each maximal row of exactly n times a.
-    fn block(&mut self, a: u16, n: u32) -> Result<(), ChoiceRefusal>
-        ensures refusal { result_err result ≡ choice_refusal self.old (Choice.Block a n) }
-        ensures stands { self.new ≡ after_choice self.old (Choice.Block a n) }
-    {
-        let new = self.make(Rule::Block(a, n))?;
-        self.sides.replace_blocks(a, n, new);
+        let new = self.make(rule)?;
+        match rule {
+            Rule::Pair(a, b) => self.sides.replace_pairs(a, b, new),
+            Rule::Block(a, n) => self.sides.replace_blocks(a, n, new),
+        }
         Ok(())
     }
 
@@ -162,8 +155,8 @@ impl Stand {
             Choice::Left(x, a) => self.pop(Pop::AtLeft(x, a)),
             Choice::Right(x, a) => self.pop(Pop::AtRight(x, a)),
             Choice::Erase(x) => self.erase(x),
-            Choice::Pair(a, b) => self.pair(a, b),
-            Choice::Block(a, n) => self.block(a, n),
+            Choice::Pair(a, b) => self.join(Rule::Pair(a, b)),
+            Choice::Block(a, n) => self.join(Rule::Block(a, n)),
         }
     }
 }

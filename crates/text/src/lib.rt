@@ -41,7 +41,8 @@ pub fn token_of(field: &[u8]) -> Token<'_>
     }
 }
 
-// The number that digits write, at most sixteen and with no zero in front of others.
+// The number that digits write, at most sixteen and with no zero in front of others. (Digit by digit: `parse` takes digits of any number, and a + in
+// front.)
 fn value_of(digits: &[u8]) -> Option<u64>
     ensures { MatchOption result (Shaped digits.now → ⊥) (λ n. Shaped digits.now × (n ≡ value_on 0 digits.now)) }
 {

@@ -49,7 +49,7 @@ fn find(seats: &[Seat], letters: &[u16], variable: u8) -> Option<Range<usize>>
     None
 }
 
-// Reading a witness. Each refusal is promised by its number too, as in every call that refuses by number.
+// Reading a witness. Each refusal of length, letter and fill is promised by its number too.
 impl Witness {
     // The rules, the oldest first.
     pub fn rules(&self) -> &[Rule]
@@ -66,7 +66,7 @@ impl Witness {
         find(self.seats.as_slice(), self.letters.as_slice(), variable)
     }
 
-    // How many letters the letters before a place of them spell.
+    // How many letters a to z the first i letters spell.
     pub(crate) fn upto(&self, i: usize) -> u64
         requires { i ≤ length self.now.letters }
         ensures { result ≡ length (spell_word (rules_of self.now.made) (take i self.now.letters)) }
@@ -121,7 +121,8 @@ impl Witness {
         Ok(letter_at(&self.made, self.letters.as_slice()[spot.index], spot.skip))
     }
 
-    // Fills a buffer with the letters a to z of what a variable's word spells, from a place on. (A cast of its length, since there is no From to u64.)
+    // Fills a buffer with the letters a to z of what a variable's word spells, from a place on.
+    // (A cast of its length, since there is no From to u64.)
     pub fn fill(&self, variable: u8, start: u64, buffer: &mut [u8]) -> Result<(), WitnessRefusal>
         ensures answer { result ≡ fill_answer (spelled (contents_of self.now) variable) start (length buffer.old) }
         ensures number { IfErr result (λ e. witness_number e ≡ refusal_number (spelled (contents_of self.now) variable)) }

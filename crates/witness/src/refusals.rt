@@ -23,7 +23,7 @@ pub enum LetterRefusal {
     TooManyLetters,
 }
 
-// No letter is added to a full list.
+// A full list refuses a letter as one too many.
 impl From<Full> for LetterRefusal {
     ghost from_gives = { λ _ why. why ≡ TooManyLetters };
 

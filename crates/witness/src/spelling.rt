@@ -16,7 +16,8 @@ pub(crate) struct Spot {
     pub(crate) skip: u64,
 }
 
-// How many letters a rule puts in a row. (Here and below a cast to usize, since there is no From for it; the proof shows that the number fits.)
+// How many letters a rule puts in a row.
+// (Here and below a cast to usize, since there is no From for it; the proof shows that the number fits.)
 fn count(rule: Rule) -> usize
     ensures { result ≡ length (parts rule) }
 {
@@ -44,7 +45,7 @@ fn scan(letters: &Letters, word: &[u16], place: u64) -> Spot
 {
     let mut skip = place;
     for (index, letter) in word.iter().enumerate() {
-        let length = letters.length(*letter).unwrap_or(0);
+        let length = letters.length(*letter).unwrap();
         if skip < length {
             return Spot { index, skip };
         }
@@ -65,6 +66,7 @@ fn locate(letters: &Letters, rule: Rule, place: u64) -> Spot
     match rule {
         Rule::Pair(first, second) => scan(letters, &[first, second], place),
         Rule::Block(letter, _) => {
+            // 1 for a block of no letter, of whose letter nothing is asked
             let length = letters.length(letter).unwrap_or(1);
             Spot {
                 index: (place / length) as usize,
@@ -102,6 +104,7 @@ fn fill_letter(letters: &Letters, letter: u16, start: u64, out: &mut [u8], at: u
             let spot = locate(letters, rule, start);
             let mut skip = spot.skip;
             let mut end = at;
+            // by number, since a block is up to a million times one letter
             for i in spot.index..count(rule) {
                 if end >= out.len() {
                     break;

@@ -14,7 +14,8 @@ pub(crate) const MOST_LETTERS: usize = 1024;
 pub(crate) const VARIABLES: usize = 26;
 
 // The rules, and the letters of all words one word after another, each with how many letters it and those before it spell.
-// The counts stand in a list of their own, since a word is lent as one slice of letters. What is true of every witness is said by ghost fields and not
+// The counts stand in a list of their own, since a word is lent as one slice of letters. What is true of every witness is said by ghost fields and
+// not
 // hidden in a model, so that a caller has it of any witness, and `every_witness_is_valid` is about the type.
 #[derive(Drop)]
 pub struct Witness {

@@ -6,7 +6,7 @@ use Rattle.systems.specs.Rows.{any}
 use Rattle.systems.specs.Sides.{is_variable}
 use Rattle.sides.specs.declared.mark.Mark.{Mark}
 use Rattle.sides.specs.declared.mark.Mark.TheVariants.{End, At}
-use Rattle.sides.specs.Seeking.{variable_at}
+use Rattle.sides.specs.Seeking.{any_variable_at}
 use Rattle.sides.specs.Marks.{lifted}
 use Rattle.sides.proofs.Finding.{at_some, at_none, at_other, found_more, noted}
 use Rattle.sides.proofs.ends.variables.Goals as goal
@@ -37,7 +37,7 @@ loop-mark-preserved c =
       | in_default w ↦ (
         ap length w.found-is ∙ c.loop-mark.invariant.0,
         elim w.in_default.branch [
-          | in_default-via-in-None-1 w' ↦ let none : None ≡ variable_at m = search rules in λ y lt. same y lt (at_none m y none) w.found-is
+          | in_default-via-in-None-1 w' ↦ let none : None ≡ any_variable_at m = search rules in λ y lt. same y lt (at_none m y none) w.found-is
           | in_default-via-in-Some+else-x-le-Z w' ↦ λ y lt. same y lt (at_other m w'.in-Some.x y w'.in-Some.ensures (omega (arith, w'.if-x-le-Z.false))) w.found-is
         ],
       )
