@@ -55,12 +55,7 @@ impl<K: Measure> Measure for Opposite<K> {
     }
 
     fn passes(&self, variable: Variable, value: K::Value) -> bool {
-        let passed = self.kind.passes(variable, value);
-        if has(self.turned, variable.number()) {
-            !passed
-        } else {
-            passed
-        }
+        self.kind.passes(variable, value) != has(self.turned, variable.number())
     }
 }
 

@@ -33,6 +33,7 @@ fn parts_of(line: &[u8]) -> Option<Parts<'_>>
 }
 
 // Adds the variable and the word whose line this is, if they may come next.
+// (An Option of nothing, since no reason is told on: only the line counts.)
 pub(crate) fn read_entry(witness: &mut Witness, line: &[u8]) -> Option<()>
     ensures { MatchOption result
         (Stuck (Giving (contents_of witness.old).rules (contents_of witness.old).entries) line.now)

@@ -22,7 +22,7 @@ impl SetRefusal {
     }
 }
 
-// Refuses what is no set.
+// Refuses what is no set. (A type of sets would be taken apart again: callers hand over numbers, and the contracts of kinds name them.)
 pub fn check_set(set: u32) -> Result<(), SetRefusal>
     ensures { MatchResult result (λ _. set < 2 ^ 26) (λ e. (set_number e ≡ 83) × (2 ^ 26 ≤ set)) }
 {

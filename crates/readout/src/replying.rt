@@ -10,7 +10,7 @@ use listing::{ReadRefusal, read};
 use std::alloc::{AllocError, Global};
 use witness::Witness;
 
-// The text that was asked for, or the text of a refusal.
+// The text that was asked for, or the text of a refusal. (An error enum would only be printed as that text.)
 pub type Reply = Result<Vec<u8>, Vec<u8>>;
 
 // The name of a variable, as a refusal gives it.

@@ -51,7 +51,7 @@ fn end(marks: &[Mark]) -> Option<usize>
     marks.iter().position(|mark| *mark == Mark::End)
 }
 
-// The first side, and what comes behind its end.
+// The first side, and what comes behind its end. (The cut of a line at a byte is alike, but no crate lies below both.)
 fn split(marks: &[Mark]) -> (&[Mark], &[Mark])
     requires { position_or_len is_end marks.now < length marks.now }
     ensures first { result.0.now ≡ before_first is_end marks.now }

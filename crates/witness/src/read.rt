@@ -32,6 +32,7 @@ impl WitnessRefusal {
 }
 
 // Where the word of a variable stands, among the letters that the seats cut into words.
+// (From the newest seat on, and by no binary search: of at most 26 seats it would need two by index, and that their variables rise.)
 fn find(seats: &[Seat], letters: &[u16], variable: u8) -> Option<Range<usize>>
     requires { tight (length letters.now) (reverse seats.now) ≡ true }
     ensures word { option_map (λ span. cut_out span letters.now) result ≡ word_of (entries (reverse seats.now) letters.now) variable }
