@@ -2,7 +2,7 @@
 
 #![tactic(auto)]
 
-ghost use Rattle.std.specs.Prelude.{◌≡◌, ◌+◌, ◌<◌, ◌≤◌, List, [], ◌∷◌, ◌++◌, length, vec_len, vec_capacity, IfOk, MatchResult, slice_get, option_copied};
+ghost use Rattle.std.specs.Prelude.{◌≡◌, ◌+◌, ◌<◌, ◌≤◌, List, [], ◌∷◌, ◌++◌, length, vec_len, vec_capacity, IfOk, MatchOption, MatchResult, slice_get, option_copied};
 
 use std::alloc::{AllocError, Global};
 use std::marker::Model;
@@ -56,6 +56,27 @@ impl<T, const N: usize> Reserved<T, N> {
         ensures { option_copied result ≡ slice_get self.now place }
     {
         self.items.get(place)
+    }
+
+    // Takes the last item off, if there is one.
+    pub fn pop(&mut self) -> Option<T>
+        ensures { MatchOption result
+            ((self.old ≡ []) × (self.new ≡ []))
+            (λ x. self.old ≡ self.new ++ x ∷ []) }
+    {
+        self.items.pop()
+    }
+
+    // Takes the first item off, if there is one: the others move up, each to the place before its own.
+    pub fn pop_first(&mut self) -> Option<T>
+        ensures { MatchOption result
+            ((self.old ≡ []) × (self.new ≡ []))
+            (λ x. self.old ≡ x ∷ self.new) }
+    {
+        if self.items.is_empty() {
+            return None;
+        }
+        Some(self.items.remove(0))
     }
 }
 
