@@ -2,4 +2,4 @@ pub mod Ending
 pub mod Finding
 pub mod Flat
 pub mod Keeps
-pub mod Loops
+pub mod Letters

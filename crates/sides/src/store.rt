@@ -8,11 +8,12 @@ ghost use Rattle.sides.specs.Holding.{all_places, only};
 ghost use Rattle.sides.specs.Marks.{marks_of};
 ghost use Rattle.sides.specs.Seeking.{First, FirstUnequal};
 
-use crate::mark::{MOST_EQUATIONS, MOST_PLACES, Mark, Marks};
+use crate::mark::{MOST_EQUATIONS, MOST_PLACES, Mark, Marks, put};
 use crate::{ends, passes, text};
 use std::alloc::{AllocError, Global};
 use std::marker::Model;
 use std::mem;
+use std::num::NonZeroU32;
 use systems::{ChoiceRefusal, LoadRefusal, Place};
 
 // No more places are loaded.
@@ -48,6 +49,21 @@ impl Sides {
             marks: Marks::new(heap)?,
             spare: Marks::new(heap)?,
             number: 0,
+        })
+    }
+
+    // The same sides, in memory of their own. (Not Clone, whose method is handed no heap.)
+    pub fn try_clone(&self, heap: Global) -> Result<Sides, AllocError>
+        ensures { IfOk result (λ s. s ≡ self.now) }
+    {
+        let mut marks = Marks::new(heap)?;
+        for mark in self.marks.as_slice() {
+            put(&mut marks, *mark);
+        }
+        Ok(Sides {
+            marks,
+            spare: Marks::new(heap)?,
+            number: self.number,
         })
     }
 
@@ -151,7 +167,13 @@ impl Sides {
     pub fn replace_pairs(&mut self, a: u16, b: u16, new: u16)
         ensures { self.new ≡ on_sides (side_pairs a b new) self.old }
     {
-        passes::put_pairs(&mut self.spare, self.marks.as_slice(), a, b, new);
+        rows::put_pairs(
+            &mut self.spare,
+            &self.marks,
+            Mark::At(Place::Letter(a)),
+            Mark::At(Place::Letter(b)),
+            Mark::At(Place::Letter(new)),
+        );
         mem::swap(&mut self.marks, &mut self.spare);
     }
 
@@ -159,10 +181,16 @@ impl Sides {
     pub fn replace_blocks(&mut self, a: u16, n: u32, new: u16)
         ensures { self.new ≡ (if nat_eq n 0 then self.old else on_sides (side_blocks a n new) self.old) }
     {
-        if n == 0 {
+        let Some(n) = NonZeroU32::new(n) else {
             return;
-        }
-        passes::put_blocks(&mut self.spare, self.marks.as_slice(), a, n, new);
+        };
+        rows::put_blocks(
+            &mut self.spare,
+            &self.marks,
+            Mark::At(Place::Letter(a)),
+            n,
+            Mark::At(Place::Letter(new)),
+        );
         mem::swap(&mut self.marks, &mut self.spare);
     }
 }
