@@ -8,6 +8,7 @@ unfolding variables
 worked_closes = record {
   no_equations = refl;
   empty = refl;
+  not_asked = refl;
   erased = refl;
   empty_word = refl;
   differs = refl;
@@ -20,6 +21,7 @@ worked_closes = record {
   untouched = refl;
   still_live = refl;
   small_table = refl;
+  entry_short = refl;
   numbers = refl;
   details = refl;
 }

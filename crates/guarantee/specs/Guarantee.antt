@@ -10,8 +10,8 @@ use Rattle.systems.specs.Sides.{stands_in, Words, Solution}
 use Rattle.systems.specs.Standings.{Standing, fresh, live, popped_word}
 use Rattle.systems.specs.Theorems.{ByLimit}
 use Rattle.systems.specs.Values.{Associative, Neutral, word_value}
+use Rattle.writing.specs.declared.Span.{Span}
 use Rattle.writing.specs.Counts.{side_letters}
-use Rattle.writing.specs.Refusals.{Span}
 use Rattle.writing.specs.Theorems.{start, Written, RefusedRightly}
 use Rattle.guarantee.specs.Closing.{Meaning, value_of, found_word, fills, Closed, close}
 

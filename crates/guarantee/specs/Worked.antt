@@ -16,6 +16,10 @@ counting = record { letter = λ _. 1; empty = 0; join = ◌+◌; passes = λ x n
 abbrev pub any_length : Meaning ℕ
 any_length = record { letter = λ _. 1; empty = 0; join = ◌+◌; passes = λ x n. true }
 
+-- the same, which passes unless the word is empty
+abbrev pub some_length : Meaning ℕ
+some_length = record { letter = λ _. 1; empty = 0; join = ◌+◌; passes = λ x n. nat_lt 0 n }
+
 abbrev pub empty_witness : Contents
 empty_witness = record { rules = []; entries = [] }
 
@@ -31,6 +35,8 @@ pub record WorkedCloses : Type 0 where
   -- no equations: accepted, with the empty witness
   pub no_equations : (closed any_length [] new 26).answer ≡ None
   pub empty : (closed any_length [] new 26).written ≡ empty_witness
+  -- no word may be empty, and no variable of the system has a word: none is asked
+  pub not_asked : (closed some_length [] new 26).answer ≡ None
   -- X = empty, erase X: accepted, X's word is empty
   pub erased : (closed any_length (one (codes "X") []) nothing_left 26).answer ≡ None
   pub empty_word : spelled (closed any_length (one (codes "X") []) nothing_left 26).written 23 ≡ Some []
@@ -49,5 +55,7 @@ pub record WorkedCloses : Type 0 where
   -- BA = AB with no choice: A is live; with a table of 25 that comes first
   pub still_live : (closed any_length (one (codes "BA") (codes "AB")) (opened (one (codes "BA") (codes "AB"))) 26).answer ≡ Some (StillLive 0)
   pub small_table : (closed any_length (one (codes "BA") (codes "AB")) (opened (one (codes "BA") (codes "AB"))) 25).answer ≡ Some SmallTable
+  -- found, with one rule made, and a table that has no entry for its letter
+  pub entry_short : (closed any_length (one (codes "Xa") (codes "abY")) both_found 26).answer ≡ Some SmallTable
   pub numbers : map close_number (SmallTable ∷ StillLive 0 ∷ SidesDiffer 1 ∷ Fails 23 ∷ []) ≡ 30 ∷ 31 ∷ 32 ∷ 33 ∷ []
   pub details : map close_detail (SmallTable ∷ StillLive 0 ∷ SidesDiffer 1 ∷ Fails 23 ∷ []) ≡ None ∷ Some 0 ∷ Some 1 ∷ Some 23 ∷ []

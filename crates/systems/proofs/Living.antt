@@ -31,7 +31,8 @@ any_of {A} (x ∷ xs) = (
   All-weaker (λ y. (p : A → Bool) → p y ≡ true → any p xs ≡ true) (λ y. (p : A → Bool) → p y ≡ true → (p x || any p xs) ≡ true) (λ y h p e. or_right (p x) (any p xs) (h p e)) xs (any_of xs),
 )
 
-each_stands : (E : List Equation) → AllByRecursion (AllByRecursion (λ p. (x : ℕ) → is_variable x p ≡ true → stands_in E x ≡ true)) (sides E)
+-- each variable in a side stands in the sides
+pub each_stands : (E : List Equation) → AllByRecursion (AllByRecursion (λ p. (x : ℕ) → is_variable x p ≡ true → stands_in E x ≡ true)) (sides E)
 each_stands E =
     All-weaker (λ s. (q : Side → Bool) → q s ≡ true → any q (sides E) ≡ true) (AllByRecursion (λ p. (x : ℕ) → is_variable x p ≡ true → stands_in E x ≡ true))
     (λ s h. All-weaker (λ p. (q : Place → Bool) → q p ≡ true → any q s ≡ true) (λ p. (x : ℕ) → is_variable x p ≡ true → stands_in E x ≡ true) (λ p k x e. h (any (is_variable x)) (k (is_variable x) e)) s (any_of s))

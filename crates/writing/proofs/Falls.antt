@@ -8,7 +8,7 @@ use Rattle.systems.specs.Rows.{any}
 use Rattle.systems.specs.Sides.{word_pairs, word_blocks}
 use Rattle.systems.specs.Standings.{fresh}
 use Rattle.systems.proofs.Living.{erased_gone}
-use Rattle.writing.specs.Counts.{word_letters, live_count}
+use Rattle.writing.specs.Counts.{word_letters, live_count, weight}
 use Rattle.writing.specs.Writer.{State, lives, next, from, variables, filled_sides, letters}
 use Rattle.writing.proofs.Filled.{filled_next, pairs_le, blocks_le}
 use Rattle.writing.proofs.Lists.{total_le, total_lt, from_has}
@@ -22,9 +22,6 @@ all_variables = (26, (refl, refl))
 pub in_variables : (x : ℕ) → x < 26 → any (eqb x) variables ≡ true
 unfolding variables
 in_variables x lt = from_has x 26 0 (omega arith) (omega arith)
-
-abbrev pub weight : State → ℕ
-weight st = letters (filled_sides st) + word_letters st + live_count st
 
 shrinks : (st : State) (choice : Choice) → Sure st choice → (y : ℕ) → length ((next st choice).words y) ≤ length (st.words y)
 shrinks st (Left x a) sure y = split (cases_eq y x)

@@ -17,7 +17,7 @@ use Rattle.systems.proofs.Living.{map_sides}
 use Rattle.systems.proofs.Meaning.{swap_means}
 use Rattle.systems.proofs.Rows.{all_each}
 use Rattle.writing.specs.Writer.{State, lives, leaves, next, begins, ends, empty, filled_sides, letters}
-use Rattle.writing.proofs.Counting.{row_lengths, has_row}
+use Rattle.writing.specs.Counting.{row_lengths, has_row}
 use Rattle.writing.proofs.Lists.{ends-++}
 
 -- what a choice makes of the filled-in sides

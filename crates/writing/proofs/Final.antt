@@ -1,5 +1,5 @@
 -- Every solution is written. Assumes nothing.
-use Rattle.std.proofs.Common.{◌≡◌, suc, ◌+◌, ◌≤◌, not, ◌&&◌, ltb, leb, List, [], ◌∷◌, ◌++◌, length, None, sym, refl, ap, ◌∙◌, subst, append_assoc, append-nil, arith, lit≤}
+use Rattle.std.proofs.Common.{◌≡◌, ◌+◌, ◌≤◌, not, ◌&&◌, ltb, leb, List, [], ◌∷◌, ◌++◌, length, None, sym, refl, ap, ◌∙◌, subst, append_assoc, append-nil, arith, lit≤}
 use Rattle.std.proofs.lemmas.Bool.{ltb-false}
 use Rattle.model.specs.Spelling.{Word, spell_word}
 use Rattle.systems.specs.declared.Choice.{Choice}
@@ -15,13 +15,14 @@ use Rattle.systems.proofs.Determined.{calls_decide_what_stands}
 use Rattle.systems.proofs.Forming.{opened_formed, opened_bare}
 use Rattle.systems.proofs.Keeping.{complete}
 use Rattle.writing.specs.Counts.{side_letters}
-use Rattle.writing.specs.Theorems.{start, NoneRefused, Writable}
+use Rattle.writing.specs.Theorems.{start, NoneRefused, Written, Writable}
 use Rattle.writing.specs.Writer.{State, next, follow, leaves, filled_sides, total, letters}
-use Rattle.writing.proofs.Falls.{weight}
+use Rattle.writing.specs.Counts.{weight}
 use Rattle.writing.proofs.Limited.{Holds, free, holds_next, holds_follow, run_falls}
 use Rattle.writing.proofs.Lists.{total_same}
-use Rattle.writing.proofs.Parts.{AllSure}
-use Rattle.writing.proofs.Rounds.{Out, written, unique}
+use Rattle.writing.proofs.Parts.{AllSure, sure_front}
+use Rattle.writing.specs.Turns.{list_of, turns_enough}
+use Rattle.writing.proofs.Rounds.{turns_are_enough, Out, written, unique}
 use Rattle.writing.proofs.Shares.{words_in_sides, few_live, variables_le}
 
 -- the run, choice by choice
@@ -35,10 +36,6 @@ follow_run loads σ earlier st run (choice ∷ more) holds sure =
     subst (λ l. Follows loads σ l (follow st (choice ∷ more)).stands (follow st (choice ∷ more)).words) (append_assoc earlier (choice ∷ []) more)
     (follow_run loads σ (earlier ++ (choice ∷ [])) (next st choice) one_more more (holds_next σ st choice sure.0 holds) sure.1)
 
-sure_front : (st : State) (xs ys : List Choice) → AllSure st (xs ++ ys) → AllSure st xs × AllSure (follow st xs) ys
-sure_front st [] ys sure = (tt, sure)
-sure_front st (choice ∷ xs) ys sure = let h = sure_front (next st choice) xs ys sure.1 in ((sure.0, h.0), h.1)
-
 all_taken : (loads : List Load) (σ : Words) → Solution σ (loaded loads) → (list : List Choice) → Holds σ (start loads σ) → AllSure (start loads σ) list → NoneRefused loads list
 all_taken loads σ solution list holds sure before behind choice S is run =
     let st : State = start loads σ in
@@ -50,7 +47,7 @@ all_taken loads σ solution list holds sure before behind choice S is run =
     (free σ st₁ choice (holds_follow σ st before parts.0 holds) parts.1.0)
 
 -- at most 1,024 places are loaded
-few_loaded : (loads : List Load) (S : Standing) → places S.equations ≤ 1024 → places (load_all S loads).equations ≤ 1024
+pub few_loaded : (loads : List Load) (S : Standing) → places S.equations ≤ 1024 → places (load_all S loads).equations ≤ 1024
 few_loaded [] S few = few
 few_loaded (load ∷ more) S few =
     few_loaded more (after_load S load.0 load.1)
@@ -64,7 +61,7 @@ plain : (w : Word) → spell_word [] w ≡ w
 plain [] = refl
 plain (l ∷ w) = ap (λ r. l ∷ r) (plain w)
 
-holds_first : (loads : List Load) (σ : Words) → Solution σ (loaded loads) → side_letters (start loads σ) ≤ 512 → Holds σ (start loads σ)
+pub holds_first : (loads : List Load) (σ : Words) → Solution σ (loaded loads) → side_letters (start loads σ) ≤ 512 → Holds σ (start loads σ)
 holds_first loads σ solution short =
     let st : State = start loads σ in
     let first : SolutionKept loads [] (opened loads) σ σ = complete loads [] (opened loads) σ σ solution beginning in
@@ -83,22 +80,30 @@ holds_first loads σ solution short =
       };
     }
 
-pub writable : Writable
-writable loads σ solution short =
+-- the first state is light
+pub light_first : (loads : List Load) (σ : Words) → side_letters (start loads σ) ≤ 512 → weight (start loads σ) ≤ 1050
+light_first loads σ short = let st : State = start loads σ in omega (arith, short, words_in_sides st, few_live st)
+
+-- the list of the rounds is the one that is written
+pub list_written : (loads : List Load) (σ : Words) → Solution σ (loaded loads) → side_letters (start loads σ) ≤ 512 → Written loads σ (list_of turns_enough (start loads σ))
+list_written loads σ solution short =
     let st : State = start loads σ in
     let holds : Holds σ st = holds_first loads σ solution short in
-    let out : Out st = written σ (suc (weight st)) st holds (omega arith) in
-    let less : length out.list + weight (follow st out.list) ≤ weight st = run_falls σ st out.list holds out.sure in (
-      out.list,
-      record {
-        writes = out.writes;
-        only = λ other w. unique out.writes w;
-        short = omega (arith, less);
-        at_most_1050 = omega (arith, less, short, words_in_sides st, few_live st);
-        end = (follow st out.list).stands;
-        left = (follow st out.list).words;
-        each_fits = follow_run loads σ [] st beginning out.list holds out.sure;
-        each_taken = all_taken loads σ solution out.list holds out.sure;
-        none_live = out.dead;
-      },
-    )
+    let light : weight st ≤ 1050 = light_first loads σ short in
+    let out : Out turns_enough st = written σ turns_enough st holds (omega (arith, light, turns_are_enough)) in
+    let less : length out.list + weight (follow st out.list) ≤ weight st = run_falls σ st out.list holds out.sure in
+    subst (Written loads σ) (sym out.is)
+    (record {
+      writes = out.writes;
+      only = λ other w. unique out.writes w;
+      short = omega (arith, less);
+      at_most_1050 = omega (arith, less, light);
+      end = (follow st out.list).stands;
+      left = (follow st out.list).words;
+      each_fits = follow_run loads σ [] st beginning out.list holds out.sure;
+      each_taken = all_taken loads σ solution out.list holds out.sure;
+      none_live = out.dead;
+    })
+
+pub writable : Writable
+writable loads σ solution short = (list_of turns_enough (start loads σ), list_written loads σ solution short)

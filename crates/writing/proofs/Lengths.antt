@@ -7,7 +7,7 @@ use Rattle.model.specs.Spelling.{Word}
 use Rattle.systems.specs.Fitting.{EndsWith, BeginsWith}
 use Rattle.systems.specs.Rows.{any}
 use Rattle.writing.specs.Writer.{begins, ends, empty, front, rest, letters, from, MaximalRow, InSome, Rising, RowLengths}
-use Rattle.writing.proofs.Counting.{row_lengths, has_row, keep, counted_lengths}
+use Rattle.writing.specs.Counting.{row_lengths, has_row, keep, counted_lengths}
 use Rattle.writing.proofs.Lists.{ends_true, begins_true, ends-++, is_ended, is_begun, from_has}
 
 -- rows
@@ -149,12 +149,16 @@ module _ (p : ℕ → Bool) where
       go more false is (inl g) = absurd (both_ways (p m) is (subst (λ z. p z ≡ true) (eqb-true n m g) e))
       go more false is (inr g) = more g
 
-pub rows_counted : (a : ℕ) (ws : List Word) → RowLengths a ws (counted_lengths a ws)
-rows_counted a ws = record {
-  rising = keep_rising (λ n. any (has_row a n) ws) (letters ws) 2;
-  rows = λ n e. (let h = kept (λ n. any (has_row a n) ws) n (letters ws) 2 e in (h.0, some_found a n ws h.1));
-  all_rows = λ n two some. (let h = some_counted a n ws some in keeps (λ n. any (has_row a n) ws) n h.0 (from 2 (letters ws)) (from_has n (letters ws) 2 two (omega (arith, h.1))));
+-- the lengths up to a bound that is no less than all letters
+pub rows_up_to : (a : ℕ) (ws : List Word) (count : ℕ) → letters ws ≤ suc count → RowLengths a ws (keep (λ n. any (has_row a n) ws) (from 2 count))
+rows_up_to a ws count all = record {
+  rising = keep_rising (λ n. any (has_row a n) ws) count 2;
+  rows = λ n e. (let h = kept (λ n. any (has_row a n) ws) n count 2 e in (h.0, some_found a n ws h.1));
+  all_rows = λ n two some. (let h = some_counted a n ws some in keeps (λ n. any (has_row a n) ws) n h.0 (from 2 count) (from_has n count 2 two (omega (arith, h.1, all))));
 }
+
+pub rows_counted : (a : ℕ) (ws : List Word) → RowLengths a ws (counted_lengths a ws)
+rows_counted a ws = rows_up_to a ws (letters ws) (omega arith)
 
 -- there are no others
 

@@ -1,8 +1,9 @@
-pub mod Counting
 pub mod Examples
 pub mod Falls
 pub mod Filled
 pub mod Final
+pub mod First
+pub mod Given
 pub mod Lengths
 pub mod Limited
 pub mod Lists

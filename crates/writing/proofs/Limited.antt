@@ -26,7 +26,8 @@ use Rattle.systems.proofs.Keeping.{Kept, kept_taken}
 use Rattle.systems.proofs.Rows.{all_joined, joined_pairs, joined_blocks}
 use Rattle.writing.specs.Counts.{word_letters}
 use Rattle.writing.specs.Writer.{State, leaves, next, follow, filled_sides, total, letters}
-use Rattle.writing.proofs.Falls.{Falls, falls, weight}
+use Rattle.writing.specs.Counts.{weight}
+use Rattle.writing.proofs.Falls.{Falls, falls}
 use Rattle.writing.proofs.Filled.{filled_next}
 use Rattle.writing.proofs.Parts.{Sure, AllSure}
 use Rattle.writing.proofs.Shares.{variable_places, variables_stay, few_places}

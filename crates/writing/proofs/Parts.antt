@@ -34,6 +34,10 @@ pub sure-++ : (st : State) (xs ys : List Choice) → AllSure st xs → AllSure (
 sure-++ st [] ys h k = k
 sure-++ st (choice ∷ xs) ys h k = (h.0, sure-++ (next st choice) xs ys h.1 k)
 
+pub sure_front : (st : State) (xs ys : List Choice) → AllSure st (xs ++ ys) → AllSure st xs × AllSure (follow st xs) ys
+sure_front st [] ys sure = (tt, sure)
+sure_front st (choice ∷ xs) ys sure = let h = sure_front (next st choice) xs ys sure.1 in ((sure.0, h.0), h.1)
+
 onward_is : (list : List Choice) (q : Part) (st : State) → onward list q st ≡ list ++ q (follow st list)
 onward_is [] q st = refl
 onward_is (choice ∷ more) q st = ap (λ r. choice ∷ r) (onward_is more q (next st choice))

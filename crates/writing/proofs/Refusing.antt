@@ -11,9 +11,10 @@ use Rattle.systems.proofs.Allowing.{not_refused}
 use Rattle.systems.proofs.Forming.{opened_formed}
 use Rattle.systems.proofs.Living.{fill_same}
 use Rattle.systems.proofs.Rows.{all_each, none_any}
+use Rattle.writing.specs.declared.Span.{Span}
 use Rattle.writing.specs.declared.WriteRefusal.TheVariants.{ShortList, NoWord, TooManyLetters, NoSolution}
 use Rattle.writing.specs.Counts.{side_letters}
-use Rattle.writing.specs.Refusals.{Span, span_of, bytes_at, a_to_z, is_word, given, same_word, solved, write_refusal}
+use Rattle.writing.specs.Refusals.{span_of, bytes_at, a_to_z, is_word, given, same_word, solved, write_refusal}
 use Rattle.writing.specs.Theorems.{start, StandInBuffer, RefusedRightly, WriterRefusesRightly}
 use Rattle.writing.specs.Writer.{letters, variables}
 use Rattle.writing.proofs.Falls.{in_variables}
@@ -51,11 +52,11 @@ same_means [] (b ∷ v) e = absurd (false≢true e)
 same_means (a ∷ u) [] e = absurd (false≢true e)
 same_means (a ∷ u) (b ∷ v) e = let parts = and_parts (eqb a b) (same_word u v) e in ap₂ (λ l w. l ∷ w) (eqb-true a b parts.0) (same_means u v parts.1)
 
-is_solved : (τ : Words) (E : List Equation) → Solves τ E → solved τ E ≡ true
+pub is_solved : (τ : Words) (E : List Equation) → Solves τ E → solved τ E ≡ true
 is_solved τ [] h = refl
 is_solved τ (e ∷ E) h = and_from (same_word (fill τ e.0) (fill τ e.1)) (solved τ E) (ap (same_word (fill τ e.0)) (sym h.0) ∙ same_itself (fill τ e.0)) (is_solved τ E h.1)
 
-solved_means : (τ : Words) (E : List Equation) → solved τ E ≡ true → Solves τ E
+pub solved_means : (τ : Words) (E : List Equation) → solved τ E ≡ true → Solves τ E
 solved_means τ [] e = tt
 solved_means τ (eq ∷ E) e = let parts = and_parts (same_word (fill τ eq.0) (fill τ eq.1)) (solved τ E) e in (same_means (fill τ eq.0) (fill τ eq.1) parts.0, solved_means τ E parts.1)
 
@@ -99,8 +100,8 @@ module _ (loads : List Load) (buffer : List ℕ) (spans : List Span) (room : ℕ
       split : (live S x ≡ true) ⊎ (live S x ≡ false) → bad x ≡ false
       split (inl of) =
           and_right (live S x) (not (is_word buffer (span_of spans x))) (not_from_true (is_word buffer (span_of spans x))
-          (and_from (leb ((span_of spans x).0 + (span_of spans x).1) (length buffer)) (a_to_z (bytes_at buffer (span_of spans x)))
-          (le-leb ((span_of spans x).0 + (span_of spans x).1) (length buffer) (stand.inside x of))
+          (and_from (leb ((span_of spans x).start + (span_of spans x).length) (length buffer)) (a_to_z (bytes_at buffer (span_of spans x)))
+          (le-leb ((span_of spans x).start + (span_of spans x).length) (length buffer) (stand.inside x of))
           (ap a_to_z (stand.bytes x of) ∙ bytes_small (σ x) (solution.a_to_z x))))
       split (inr other) = and_left (live S x) (not (is_word buffer (span_of spans x))) other
 
@@ -132,7 +133,7 @@ module _ (loads : List Load) (buffer : List ℕ) (spans : List Span) (room : ℕ
     where
       split : (live S x ≡ false) ⊎ (not (is_word buffer (span_of spans x)) ≡ false) → a_to_z (bytes_at buffer (span_of spans x)) ≡ true
       split (inl other) = absurd (both_ways (live S x) other of)
-      split (inr e) = (and_parts (leb ((span_of spans x).0 + (span_of spans x).1) (length buffer)) (a_to_z (bytes_at buffer (span_of spans x))) (not-false (is_word buffer (span_of spans x)) e)).1
+      split (inr e) = (and_parts (leb ((span_of spans x).start + (span_of spans x).length) (length buffer)) (a_to_z (bytes_at buffer (span_of spans x))) (not-false (is_word buffer (span_of spans x)) e)).1
   given_small good x (inr other) = subst (Below 26) (sym (cond-false (live S x) (map (λ b. b - 97) (bytes_at buffer (span_of spans x))) [] other)) tt
 
   refused_rightly : RefusedRightly loads buffer spans room

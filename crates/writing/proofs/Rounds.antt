@@ -1,21 +1,30 @@
 -- The rounds come to an end, and write one list. Assumes nothing.
-use Rattle.std.proofs.Common.{◌≡◌, ℕ, zero, suc, ◌<◌, ◌≤◌, Bool, true, false, cond, eqb, ◌⊎◌, List, [], ◌∷◌, ◌++◌, length, Some, None, Option, sym, refl, ap, ◌∙◌, subst, ap₂, inl, inr, arith}
-use Rattle.std.proofs.lemmas.Bool.{cases_Bool, eqb-true, eqb-false, eq-eqb, ne_eqb, cond-true, cond-false, true≢false}
+use Rattle.std.proofs.Common.{◌≡◌, ℕ, zero, suc, ◌<◌, ◌≤◌, Bool, true, false, cond, eqb, ◌⊎◌, List, [], ◌∷◌, ◌++◌, length, Some, None, Option, sym, refl, ap, ◌∙◌, subst, ap₂, inl, inr, append-nil, arith, lit<}
+use mathlib.Core.Bool.{Bool-set}
+use mathlib.Core.Logic.{∥∥₁_elim, ∥∥₁_map}
+use Rattle.std.proofs.lemmas.Bool.{cases_Bool, eqb-true, eqb-false, eq-eqb, ne_eqb, cond-true, cond-false, lt-ltb, ltb-true, true≢false}
 use Rattle.model.specs.Spelling.{Word}
 use Rattle.systems.specs.declared.Choice.{Choice}
 use Rattle.systems.specs.declared.Choice.TheVariants.{Left}
 use Rattle.systems.specs.Sides.{Words}
 use Rattle.writing.specs.Writer.{State, lives, follow, variables, empty, filled_sides, pop_rows, join_pair, join_blocks, erasures, erased, first_live, Rounds, ends_here, one_letter, by_pair, by_blocks}
-use Rattle.writing.proofs.Falls.{weight, in_variables}
+use Rattle.writing.specs.Counts.{weight}
+use Rattle.writing.proofs.Falls.{in_variables}
 use Rattle.writing.proofs.Lengths.{rows_counted, same_rows}
 use Rattle.writing.proofs.Limited.{Holds, holds_follow, run_falls, live_low}
 use Rattle.writing.proofs.Lists.{first_none, first_some}
-use Rattle.writing.proofs.Parts.{AllSure, sure-++, follow-++}
-use Rattle.writing.proofs.Turns.{erased_full, erasures_sure, block_lengths, turn, turn_of, turn_sure}
+use Rattle.writing.proofs.Parts.{AllSure, sure-++, follow-++, then_is}
+use Rattle.writing.specs.Turns.{block_lengths, list_of, on_first, turn, turn_of, turns, turns_enough}
+use Rattle.writing.proofs.Turns.{erased_full, erasures_sure, turn_sure}
+
+pub turns_are_enough : 1050 < turns_enough
+unfolding turns_enough
+turns_are_enough = lit< tt
 
 -- the list, with what is wanted of it
-pub record Out (st : State) : Type 0 where
+pub record Out (fuel : ℕ) (st : State) : Type 0 where
   pub list : List Choice
+  pub is : list_of fuel st ≡ list
   pub writes : Rounds st list
   pub sure : AllSure st list
   pub dead : (x : ℕ) → lives (follow st list) x ≡ false
@@ -64,22 +73,51 @@ round_on st x more e (a ∷ (b ∷ w)) is full rounds = go (eqb a b) refl rounds
     go true same more_rounds = by_blocks x a w (block_lengths a (erased st)) e (is ∙ ap (λ l. a ∷ l ∷ w) (sym (eqb-true a b same))) (rows_counted a (filled_sides (follow (erased st) (pop_rows a (erased st))))) more_rounds
     go false other more_rounds = by_pair x a b w e is (eqb-false a b other) more_rounds
 
-pub written : (σ : Words) (fuel : ℕ) (st : State) → Holds σ st → weight st < fuel → Out st
+-- the list where no variable is live behind the erasures, and where x is the first
+list_stops : (fuel : ℕ) (st : State) → first_live (erased st) ≡ None → list_of (suc fuel) st ≡ erasures st
+list_stops fuel st e = then_is erasures (turns (suc fuel)) st ∙ ap (λ o. erasures st ++ on_first o (list_of fuel) (erased st)) e ∙ append-nil (erasures st)
+
+list_goes : (fuel : ℕ) (st : State) (x : ℕ) → first_live (erased st) ≡ Some x → list_of (suc fuel) st ≡ erasures st ++ (turn_of x (erased st) ++ list_of fuel (follow (erased st) (turn_of x (erased st))))
+list_goes fuel st x e =
+    then_is erasures (turns (suc fuel)) st ∙ ap (λ o. erasures st ++ on_first o (list_of fuel) (erased st)) e ∙
+    ap (λ r. erasures st ++ r) (then_is (turn_of x) (list_of fuel) (erased st))
+
+pub written : (σ : Words) (fuel : ℕ) (st : State) → Holds σ st → weight st < fuel → Out fuel st
 written σ zero st holds less = absurd (omega arith)
 written σ (suc fuel) st holds less = go (λ st' h l. written σ fuel st' h l) (first_live (erased st)) refl
   where
-    go : ((st' : State) → Holds σ st' → weight st' < fuel → Out st') → (o : Option ℕ) → first_live (erased st) ≡ o → Out st
-    go more None e = record { list = erasures st; writes = ends_here e; sure = erasures_sure st; dead = none_lives σ st holds e }
+    go : ((st' : State) → Holds σ st' → weight st' < fuel → Out fuel st') → (o : Option ℕ) → first_live (erased st) ≡ o → Out (suc fuel) st
+    go more None e = record {
+      list = erasures st;
+      is = list_stops fuel st e;
+      writes = ends_here e;
+      sure = erasures_sure st;
+      dead = none_lives σ st holds e;
+    }
     go more (Some x) e =
         let choices : List Choice = turn_of x (erased st) in
         let r : Round σ st x = one_round σ st holds x e in
-        let out : Out (follow (erased st) choices) = more (follow (erased st) choices) r.holds (omega (arith, r.lighter)) in
+        let out : Out fuel (follow (erased st) choices) = more (follow (erased st) choices) r.holds (omega (arith, r.lighter)) in
         record {
           list = erasures st ++ (choices ++ out.list);
+          is = list_goes fuel st x e ∙ ap (λ r. erasures st ++ (choices ++ r)) out.is;
           writes = round_on st x out.list e ((erased st).words x) refl r.full out.writes;
           sure = sure-++ st (erasures st) (choices ++ out.list) r.erasures_are_sure (sure-++ (erased st) choices out.list r.turn_is_sure out.sure);
           dead = λ y. ap (λ s. lives s y) (follow-++ st (erasures st) (choices ++ out.list) ∙ follow-++ (erased st) choices out.list) ∙ out.dead y;
         }
+
+-- the rounds, where it is only known that the state is one that is reached
+pub rounds_written : (σ : Words) (fuel : ℕ) (st : State) → ∥ Holds σ st ∥₁ → weight st < fuel → Rounds st (list_of fuel st)
+rounds_written σ zero st some less = absurd (omega arith)
+rounds_written σ (suc fuel) st some less = go (λ st' h l. rounds_written σ fuel st' h l) (first_live (erased st)) refl
+  where
+    go : ((st' : State) → ∥ Holds σ st' ∥₁ → weight st' < fuel → Rounds st' (list_of fuel st')) → (o : Option ℕ) → first_live (erased st) ≡ o → Rounds st (list_of (suc fuel) st)
+    go more None e = subst (Rounds st) (sym (list_stops fuel st e)) (ends_here e)
+    go more (Some x) e =
+        let after : State = follow (erased st) (turn_of x (erased st)) in
+        let full : empty ((erased st).words x) ≡ false = ∥∥₁_elim some (Bool-set _ _) (λ holds. (one_round σ st holds x e).full) in
+        let lighter : weight after < weight st = ltb-true (weight after) (weight st) (∥∥₁_elim some (Bool-set _ _) (λ holds. lt-ltb (weight after) (weight st) (one_round σ st holds x e).lighter)) in
+        subst (Rounds st) (sym (list_goes fuel st x e)) (round_on st x (list_of fuel after) e ((erased st).words x) refl full (more after (∥∥₁_map some (λ holds. (one_round σ st holds x e).holds)) (omega (arith, lighter))))
 
 -- only one list: the rounds by the turn of the first live variable
 data ByTurns : State → List Choice → Type 0 where

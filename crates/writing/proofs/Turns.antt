@@ -1,5 +1,5 @@
 -- The turn of a variable: its choices are sure, and there is one at least. Assumes nothing.
-use Rattle.std.proofs.Common.{◌≡◌, ℕ, zero, suc, ◌+◌, ◌<◌, ◌≤◌, Bool, true, false, cond, ◌&&◌, eqb, ◌≢◌, ◌⊎◌, List, [], ◌∷◌, ◌++◌, map, length, sym, refl, ap, ◌∙◌, subst, inl, inr, arith, length-append}
+use Rattle.std.proofs.Common.{◌≡◌, ℕ, zero, suc, ◌+◌, ◌<◌, ◌≤◌, Bool, true, false, ◌&&◌, eqb, ◌≢◌, ◌⊎◌, List, [], ◌∷◌, ◌++◌, map, length, sym, refl, ap, ◌∙◌, subst, inl, inr, arith, length-append}
 use Rattle.std.specs.List.{AllByRecursion}
 use Rattle.std.proofs.ByRecursion.{All-append}
 use Rattle.std.proofs.lemmas.Bool.{cond_both, and_cases, eqb-false, both_ways, true≢false}
@@ -12,7 +12,8 @@ use Rattle.systems.specs.Sides.{Words, word_pairs, word_blocks}
 use Rattle.systems.specs.Standings.{fresh}
 use Rattle.systems.proofs.Living.{erased_gone}
 use Rattle.writing.specs.Writer.{State, lives, leaves, next, follow, Part, each, from, variables, erase_empty, for_pair, for_block, filled_sides, letters, pop_rows, join_pair, join_blocks, erasures, erased, begins, empty, rest}
-use Rattle.writing.proofs.Counting.{has_row, keep, counted_lengths}
+use Rattle.writing.specs.Counting.{has_row, keep}
+use Rattle.writing.specs.Turns.{block_lengths, turn}
 use Rattle.writing.proofs.Falls.{all_variables}
 use Rattle.writing.proofs.Filled.{filled_next, letters_lt, pairs_le, pairs_lt, has_pair, pair_occurs, blocks_le, blocks_lt, bare_blocks, rows_stay}
 use Rattle.writing.proofs.Limited.{Holds, holds_follow, live_low}
@@ -113,19 +114,6 @@ module _ (a : ℕ) (p : ℕ → Bool) where
             (λ n le f. ap (any (has_row a n)) (filled_next st (Block a k) fits) ∙ rows_stay a k c two n (λ same. omega arith) (λ same. omega arith) (filled_sides st) (rows n (omega arith) f)),
       ))
       (λ _. blocks_sure count (suc k) st (omega arith) (omega arith) known bare (λ n le f. rows n (omega arith) f))
-
--- the lengths of the rows behind the pops
-abbrev pub block_lengths : ℕ → State → List ℕ
-block_lengths a st = counted_lengths a (filled_sides (follow st (pop_rows a st)))
-
--- the turn of the first live variable x, by its word
-abbrev pub turn : ℕ → Word → Part
-turn x [] st = []
-turn x (a ∷ []) st = Left x a ∷ []
-turn x (a ∷ (b ∷ w)) st = cond (eqb a b) (join_blocks a (block_lengths a st) st) (join_pair a b st)
-
-abbrev pub turn_of : ℕ → Part
-turn_of x st = turn x (st.words x) st
 
 module _ (σ : Words) (st : State) (holds : Holds σ st) (x : ℕ) (alive : lives st x ≡ true) where
   pair_turn : (a b : ℕ) (w : Word) → st.words x ≡ a ∷ b ∷ w → a ≢ b → AllSure st (join_pair a b st)

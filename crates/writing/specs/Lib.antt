@@ -1,5 +1,7 @@
+pub mod Counting
 pub mod Counts
 pub mod Refusals
 pub mod Theorems
+pub mod Turns
 pub mod Worked
 pub mod Writer

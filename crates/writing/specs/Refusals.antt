@@ -4,6 +4,7 @@ use Rattle.model.specs.Spelling.{Word}
 use Rattle.systems.specs.Rows.{any}
 use Rattle.systems.specs.Sides.{Equation, Words, fill}
 use Rattle.systems.specs.Standings.{Standing, live}
+use Rattle.writing.specs.declared.Span.{Span}
 use Rattle.writing.specs.declared.WriteRefusal.{WriteRefusal}
 use Rattle.writing.specs.declared.WriteRefusal.TheVariants.{ShortList, NoWord, TooManyLetters, NoSolution}
 use Rattle.writing.specs.Counts.{side_letters}
@@ -16,17 +17,13 @@ write_number NoWord = 52
 write_number TooManyLetters = 53
 write_number NoSolution = 54
 
--- where a word begins in the buffer, and its length
-abbrev pub Span : Type 0
-Span = ℕ × ℕ
-
 -- the span of the variable x
 abbrev pub span_of : List Span → ℕ → Span
-span_of spans x = slice_index_or spans x (0, 0)
+span_of spans x = slice_index_or spans x (record { start = 0; length = 0 })
 
 -- the bytes there
 abbrev pub bytes_at : List ℕ → Span → List ℕ
-bytes_at buffer span = take span.1 (drop span.0 buffer)
+bytes_at buffer span = take span.length (drop span.start buffer)
 
 -- they are a to z
 abbrev pub a_to_z : List ℕ → Bool
@@ -35,7 +32,7 @@ a_to_z (b ∷ bytes) = (nat_le 97 b && nat_le b 122) && a_to_z bytes
 
 -- the span lies in the buffer, at its end too, and its bytes are a to z
 abbrev pub is_word : List ℕ → Span → Bool
-is_word buffer span = nat_le (span.0 + span.1) (length buffer) && a_to_z (bytes_at buffer span)
+is_word buffer span = nat_le (span.start + span.length) (length buffer) && a_to_z (bytes_at buffer span)
 
 -- the words of the variables of the system; those of other variables are not looked at
 abbrev pub given : Standing → List ℕ → List Span → Words

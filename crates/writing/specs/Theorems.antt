@@ -5,8 +5,9 @@ use Rattle.systems.specs.Refusals.{choice_refusal}
 use Rattle.systems.specs.Runs.{Load, opened, loaded, OfSystem, Reaches, Follows}
 use Rattle.systems.specs.Sides.{Words, Solution}
 use Rattle.systems.specs.Standings.{Standing, live}
+use Rattle.writing.specs.declared.Span.{Span}
 use Rattle.writing.specs.Counts.{side_letters, word_letters, live_count}
-use Rattle.writing.specs.Refusals.{Span, span_of, bytes_at, given, write_refusal}
+use Rattle.writing.specs.Refusals.{span_of, bytes_at, given, write_refusal}
 use Rattle.writing.specs.Writer.{State, beside, Writes}
 
 -- the opened check, and a solution beside it
@@ -36,7 +37,7 @@ Writable = (loads : List Load) (σ : Words) → Solution σ (loaded loads) → s
 
 -- the words of σ stand in the buffer as bytes a to z, each at the span of its variable
 pub record StandInBuffer (loads : List Load) (σ : Words) (buffer : List ℕ) (spans : List Span) : Type 0 where
-  pub inside : (x : ℕ) → OfSystem loads x → (span_of spans x).0 + (span_of spans x).1 ≤ length buffer
+  pub inside : (x : ℕ) → OfSystem loads x → (span_of spans x).start + (span_of spans x).length ≤ length buffer
   pub bytes : (x : ℕ) → OfSystem loads x → bytes_at buffer (span_of spans x) ≡ map (λ l. 97 + l) (σ x)
 
 -- what a caller gives to the writer is refused or taken rightly

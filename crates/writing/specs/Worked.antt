@@ -5,17 +5,22 @@ use Rattle.systems.specs.Examples.{one}
 use Rattle.systems.specs.Runs.{opened}
 use Rattle.systems.specs.Sides.{Words}
 use Rattle.systems.specs.Standings.{Standing}
+use Rattle.writing.specs.declared.Span.{Span}
 use Rattle.writing.specs.declared.WriteRefusal.TheVariants.{ShortList, NoWord, TooManyLetters, NoSolution}
-use Rattle.writing.specs.Refusals.{write_number, Span, write_refusal}
+use Rattle.writing.specs.Refusals.{write_number, write_refusal}
 use Rattle.writing.specs.Writer.{put, Writes}
 
 -- the words of X and Y
 abbrev pub two_words : List ℕ → List ℕ → Words
 two_words u v = put (put (λ _. []) 23 u) 24 v
 
+-- so many bytes from a place on
+abbrev pub span : ℕ → ℕ → Span
+span start length = record { start = start; length = length }
+
 -- the spans of X and Y; those of the other variables lie in no buffer below
 abbrev pub two_spans : Span → Span → List Span
-two_spans s t = replicate 23 (9999, 9) ++ (s ∷ t ∷ (9999, 9) ∷ [])
+two_spans s t = replicate 23 (span 9999 9) ++ (s ∷ t ∷ span 9999 9 ∷ [])
 
 -- Xa = abY
 abbrev pub two_variables : Standing
@@ -31,15 +36,15 @@ pub record WorkedLists : Type 0 where
   -- X = aa with X = aa: left X a, left X a, erase X, block a 2
   pub block_of_two : Writes (opened (one (codes "X") (codes "aa"))) (two_words (0 ∷ 0 ∷ []) []) (Left 23 0 ∷ Left 23 0 ∷ Erase 23 ∷ Block 0 2 ∷ [])
   -- X is ab and Y is a, at the end of the buffer
-  pub given_words : write_refusal two_variables (codes "aba") (two_spans (0, 2) (2, 1)) 1050 ≡ None
-  pub short_list : write_refusal two_variables (codes "aba") (two_spans (0, 2) (2, 1)) 1049 ≡ Some ShortList
+  pub given_words : write_refusal two_variables (codes "aba") (two_spans (span 0 2) (span 2 1)) 1050 ≡ None
+  pub short_list : write_refusal two_variables (codes "aba") (two_spans (span 0 2) (span 2 1)) 1049 ≡ Some ShortList
   -- a byte that is none of a to z, a word that ends outside, an empty word that begins outside
-  pub capital : write_refusal two_variables (codes "abA") (two_spans (0, 2) (2, 1)) 1050 ≡ Some NoWord
-  pub outside : write_refusal two_variables (codes "aba") (two_spans (0, 2) (2, 2)) 1050 ≡ Some NoWord
-  pub empty_outside : write_refusal two_variables (codes "aba") (two_spans (0, 2) (4, 0)) 1050 ≡ Some NoWord
+  pub capital : write_refusal two_variables (codes "abA") (two_spans (span 0 2) (span 2 1)) 1050 ≡ Some NoWord
+  pub outside : write_refusal two_variables (codes "aba") (two_spans (span 0 2) (span 2 2)) 1050 ≡ Some NoWord
+  pub empty_outside : write_refusal two_variables (codes "aba") (two_spans (span 0 2) (span 4 0)) 1050 ≡ Some NoWord
   -- X = X with 256 letters in its word, and with 257
-  pub letters_512 : write_refusal (opened (one (codes "X") (codes "X"))) (replicate 256 97) (two_spans (0, 256) (0, 0)) 1050 ≡ None
-  pub letters_514 : write_refusal (opened (one (codes "X") (codes "X"))) (replicate 257 97) (two_spans (0, 257) (0, 0)) 1050 ≡ Some TooManyLetters
+  pub letters_512 : write_refusal (opened (one (codes "X") (codes "X"))) (replicate 256 97) (two_spans (span 0 256) (span 0 0)) 1050 ≡ None
+  pub letters_514 : write_refusal (opened (one (codes "X") (codes "X"))) (replicate 257 97) (two_spans (span 0 257) (span 0 0)) 1050 ≡ Some TooManyLetters
   -- X is ab and Y is empty
-  pub no_solution : write_refusal two_variables (codes "aba") (two_spans (0, 2) (3, 0)) 1050 ≡ Some NoSolution
+  pub no_solution : write_refusal two_variables (codes "aba") (two_spans (span 0 2) (span 3 0)) 1050 ≡ Some NoSolution
   pub numbers : map write_number (ShortList ∷ NoWord ∷ TooManyLetters ∷ NoSolution ∷ []) ≡ 51 ∷ 52 ∷ 53 ∷ 54 ∷ []

@@ -29,6 +29,13 @@ impl WriteRefusal {
     }
 }
 
+// Where a word begins in the buffer, and its length.
+#[derive(Clone, Copy, PartialEq, Eq, Debug)]
+pub struct Span {
+    pub start: usize,
+    pub length: usize,
+}
+
 // For each solution there is one list; it is short, each choice fits and is taken, and at its end no variable is live.
 pub fn writable()
     ensures { Writable }

@@ -3,7 +3,7 @@ use Rattle.guarantee.specs.Closing.{fails}
 use Rattle.measure.proofs.Symbols.{number_is_place}
 use Rattle.checker.specs.Ending.{meaning}
 use Rattle.checker.specs.Holding.{standing, system_of}
-use Rattle.checker.proofs.Ends.{first_found, none_found}
+use Rattle.writing.proofs.First.{first_found, none_found}
 use Rattle.checker.proofs.store.Check.first_failing.Goals as goal
 
 pub loop-variable-init : goal.loop-variable-init
