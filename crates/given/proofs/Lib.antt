@@ -1,0 +1,4 @@
+pub mod Errors
+pub mod Judging
+pub mod Loads
+pub mod Steps

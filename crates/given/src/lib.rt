@@ -1,0 +1,12 @@
+// The words that a caller gives to the writer, read and filled into the sides of a system; or why no list is written for them.
+
+#![tactic(auto)]
+
+mod error;
+mod filling;
+mod reading;
+mod words;
+
+pub use error::WriteError;
+pub use reading::read;
+pub use words::GivenWords;

@@ -1,0 +1,114 @@
+// Lists that are written.
+use crate::tools::{FIRST, X, Y, list, one_equation, two_words, untouched, writes};
+use checker::System;
+use std::test::Fail;
+use systems::Choice;
+use writer::write;
+
+#[test]
+fn a_pair(rt: HostRuntime) -> Result<(), Fail> {
+    let heap = rt.alloc();
+    writes(
+        heap,
+        &one_equation(heap, b"Xa", b"abY")?,
+        &two_words(b"aba", (0, 2), (2, 1)),
+        &[
+            Choice::Right(Y, 0),
+            Choice::Erase(Y),
+            Choice::Pair(0, 1),
+            Choice::Left(X, FIRST),
+            Choice::Erase(X),
+        ],
+    )
+}
+
+#[test]
+fn one_pop_at_each_end(rt: HostRuntime) -> Result<(), Fail> {
+    let heap = rt.alloc();
+    // Y's word still begins with b when the pair is joined
+    writes(
+        heap,
+        &one_equation(heap, b"Xb", b"aY")?,
+        &two_words(b"abbb", (0, 2), (2, 2)),
+        &[
+            Choice::Left(Y, 1),
+            Choice::Pair(0, 1),
+            Choice::Left(X, FIRST),
+            Choice::Erase(X),
+            Choice::Left(Y, 1),
+            Choice::Erase(Y),
+        ],
+    )
+}
+
+#[test]
+fn a_block(rt: HostRuntime) -> Result<(), Fail> {
+    let heap = rt.alloc();
+    writes(
+        heap,
+        &one_equation(heap, b"aX", b"Xa")?,
+        &two_words(b"aa", (0, 2), (0, 0)),
+        &[
+            Choice::Left(X, 0),
+            Choice::Left(X, 0),
+            Choice::Erase(X),
+            Choice::Block(0, 3),
+        ],
+    )
+}
+
+#[test]
+fn block_lengths_rise(rt: HostRuntime) -> Result<(), Fail> {
+    let heap = rt.alloc();
+    // the rows of a have 4, 3, 1 and 2 letters
+    writes(
+        heap,
+        &one_equation(heap, b"aaaabXbaa", b"aaaabXbaa")?,
+        &two_words(b"aaaba", (0, 5), (0, 0)),
+        &[
+            Choice::Left(X, 0),
+            Choice::Left(X, 0),
+            Choice::Left(X, 0),
+            Choice::Right(X, 0),
+            Choice::Block(0, 2),
+            Choice::Block(0, 3),
+            Choice::Block(0, 4),
+            Choice::Left(X, 1),
+            Choice::Erase(X),
+        ],
+    )
+}
+
+#[test]
+fn variables_in_their_order(rt: HostRuntime) -> Result<(), Fail> {
+    let heap = rt.alloc();
+    // both words are empty, and X comes before Y
+    writes(
+        heap,
+        &one_equation(heap, b"YX", b"")?,
+        &two_words(b"", (0, 0), (0, 0)),
+        &[Choice::Erase(X), Choice::Erase(Y)],
+    )
+}
+
+#[test]
+fn no_variable(rt: HostRuntime) -> Result<(), Fail> {
+    let heap = rt.alloc();
+    let given = two_words(b"", (0, 0), (0, 0));
+    writes(heap, &System::new(heap)?, &given, &[])?;
+    writes(heap, &one_equation(heap, b"ab", b"ab")?, &given, &[])
+}
+
+#[test]
+fn the_system_still_loads(rt: HostRuntime) -> Result<(), Fail> {
+    let heap = rt.alloc();
+    let mut system = one_equation(heap, b"X", b"a")?;
+    let expected = [Choice::Left(X, 0), Choice::Erase(X)];
+    writes(heap, &system, &two_words(b"a", (0, 1), (0, 0)), &expected)?;
+    assert!(rt; system.load(b"X", b"b").is_ok());
+    let mut list = list(heap, 1_050)?;
+    let given = two_words(b"a", (0, 1), (0, 0));
+    assert!(rt; write(heap, &system, &given, list.as_mut_slice()).is_err());
+    assert!(rt; untouched(list.as_slice()));
+    Ok(())
+}

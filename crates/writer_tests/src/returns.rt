@@ -1,0 +1,96 @@
+// Written lists put to the opened check: each choice is taken, the close accepts, and the words come back.
+use crate::tools::{X, Y, list, one_equation, two_words};
+use checker::System;
+use given::GivenWords;
+use length::kind::Length;
+use measure::Measure;
+use std::alloc::Global;
+use std::test::Fail;
+use witness::Witness;
+use writer::write;
+
+// The witness spells this word for the variable.
+fn spells(heap: Global, witness: &Witness, variable: u8, word: &[u8]) -> Result<(), Fail> {
+    let mut spelled = vec![in heap; 0; word.len()]?;
+    witness.fill(variable, 0, spelled.as_mut_slice())?;
+    if spelled.as_slice() != word || witness.length(variable) != Ok(word.len() as u64) {
+        return Err(Fail::new("another word comes back"));
+    }
+    Ok(())
+}
+
+// A word of so many letters below `few`, with rows and pairs of many kinds.
+fn mixed(heap: Global, length: usize, few: u32) -> Result<Vec<u8>, Fail> {
+    let mut word = Vec::with_capacity(heap, length)?;
+    let mut state: u32 = 1;
+    for _ in 0..length {
+        state = state.wrapping_mul(1_103_515_245).wrapping_add(12_345);
+        word.push(b'a' + (state >> 16 & 255) as u8 % few as u8)?;
+    }
+    Ok(word)
+}
+
+// The list that is written for these words leads to a witness; answers it, and how many choices were put.
+fn found(heap: Global, system: System, given: &GivenWords) -> Result<(Witness, usize), Fail> {
+    let mut list = list(heap, 1_050)?;
+    let count = write(heap, &system, given, list.as_mut_slice())?;
+    let mut opened = system.open();
+    for choice in &list.as_slice()[..count] {
+        opened.choose(*choice)?;
+    }
+    let kind = Length::new([0; 26], [1_000_000; 26])?;
+    let mut values = vec![in heap; kind.empty(); 538]?;
+    let mut witness = Witness::new(heap)?;
+    opened.close(&kind, values.as_mut_slice(), &mut witness)?;
+    Ok((witness, count))
+}
+
+#[test]
+fn two_words_of_a_pair(rt: HostRuntime) -> Result<(), Fail> {
+    let heap = rt.alloc();
+    let system = one_equation(heap, b"Xa", b"abY")?;
+    let (witness, count) = found(heap, system, &two_words(b"aba", (0, 2), (2, 1)))?;
+    assert_eq!(rt; count, 5);
+    assert_eq!(rt; witness.rules().len(), 1);
+    spells(heap, &witness, X, b"ab")?;
+    spells(heap, &witness, Y, b"a")
+}
+
+#[test]
+fn an_empty_word(rt: HostRuntime) -> Result<(), Fail> {
+    let heap = rt.alloc();
+    let system = one_equation(heap, b"XY", b"aX")?;
+    let (witness, _) = found(heap, system, &two_words(b"a", (0, 0), (0, 1)))?;
+    spells(heap, &witness, X, b"")?;
+    spells(heap, &witness, Y, b"a")
+}
+
+#[test]
+fn long_words(rt: HostRuntime) -> Result<(), Fail> {
+    let heap = rt.alloc();
+    for few in 1..=5 {
+        let word = mixed(heap, 256, few)?;
+        let system = one_equation(heap, b"X", b"Y")?;
+        let given = two_words(word.as_slice(), (0, 256), (0, 256));
+        let (witness, count) = found(heap, system, &given)?;
+        assert!(rt; count <= 512 + 512 + 2);
+        spells(heap, &witness, X, word.as_slice())?;
+        spells(heap, &witness, Y, word.as_slice())?;
+    }
+    Ok(())
+}
+
+#[test]
+fn words_in_several_places(rt: HostRuntime) -> Result<(), Fail> {
+    let heap = rt.alloc();
+    for few in 1..=4 {
+        let word = mixed(heap, 60, few)?;
+        let mut system = one_equation(heap, b"XYX", b"XYX")?;
+        system.load(b"YbX", b"YbX")?;
+        let given = two_words(word.as_slice(), (0, 25), (25, 35));
+        let (witness, _) = found(heap, system, &given)?;
+        spells(heap, &witness, X, &word.as_slice()[..25])?;
+        spells(heap, &witness, Y, &word.as_slice()[25..])?;
+    }
+    Ok(())
+}
