@@ -1,5 +1,5 @@
 -- What is read of a caller's words, and what an error says. Assumes nothing.
-use Rattle.std.specs.Prelude.{◌≡◌, ℕ, ◌<◌, ◌≤◌, Bool, true, false, List, Some, None, Option, slice_index_or}
+use Rattle.std.specs.Prelude.{◌≡◌, ℕ, ◌<◌, ◌≤◌, Bool, true, false, List, Some, None, Option, ◌≢◌, slice_index_or}
 use Rattle.std.specs.List.{AllByRecursion}
 use Rattle.systems.specs.Sides.{Equation, SameSides, places, stands_in}
 use Rattle.writing.specs.declared.Span.{Span}
@@ -9,9 +9,13 @@ use Rattle.writing.specs.Refusals.{is_word, span_of}
 use Rattle.given.specs.declared.error.WriteError.{WriteError}
 use Rattle.given.specs.declared.error.WriteError.TheVariants.{Refused, NoMemory}
 
--- the error is the refusal that is due, if any; or there is no memory, which may come at any time
+-- neither the room of the list nor a word is the reason
+abbrev pub ListAndWordsGiven : Option WriteRefusal → Type 0
+ListAndWordsGiven due = (due ≢ Some ShortList) × (due ≢ Some NoWord)
+
+-- the error is the refusal that is due, if any; or there is no memory, of which none is asked for before the list's room and the words are judged
 abbrev pub Refuses : WriteError → Option WriteRefusal → Type 0
-Refuses NoMemory due = Unit {0}
+Refuses NoMemory due = ListAndWordsGiven due
 Refuses (Refused why) due = due ≡ Some why
 
 -- the error is this refusal, and what it says is so; or there is no memory

@@ -6,7 +6,7 @@ use Rattle.writing.specs.declared.WriteRefusal.TheVariants.{TooManyLetters}
 use Rattle.writing.specs.Refusals.{given}
 use Rattle.writing.proofs.Given.{sides_filled, too_many_letters}
 use Rattle.given.proofs.Errors.{refuses}
-use Rattle.given.proofs.Judging.{judged, not_given, words}
+use Rattle.given.proofs.Judging.{all_given, judged, not_given, words}
 use Rattle.given.proofs.reading.start.Goals as goal
 
 pub returns-in_err-judge_words : goal.returns-in_err-judge_words
@@ -22,7 +22,8 @@ returns-in_err-start c =
     let spans = c.args.given.now.spans in
     let p = err_from_is_err_and c.from_residual-in_err-start.result c.from_residual-in_err-start.ensures.1 in
     rw (p.1, p.2) (refuses TooManyLetters _ _ c.in_err-start.field-0.0
-    (too_many_letters (only E) buffer spans (words E buffer spans c.variables-system.result c.variables-system.ensures c.in_ok-judge_words.ensures)) c.in_err-start.ensures)
+    (too_many_letters (only E) buffer spans (words E buffer spans c.variables-system.result c.variables-system.ensures c.in_ok-judge_words.ensures))
+    (all_given E buffer spans c.variables-system.result c.variables-system.ensures c.in_ok-judge_words.ensures) c.in_err-start.ensures)
 
 pub returns-in_err-judge_filled : goal.returns-in_err-judge_filled
 returns-in_err-judge_filled c =
