@@ -19,13 +19,13 @@ fn spells(heap: Global, witness: &Witness, variable: u8, word: &[u8]) -> Result<
     Ok(())
 }
 
-// A word of so many letters below `few`, with rows and pairs of many kinds.
-fn mixed(heap: Global, length: usize, few: u32) -> Result<Vec<u8>, Fail> {
+// A word of so many letters, up to the letter `last` from a as 0, with rows and pairs of many kinds.
+fn mixed(heap: Global, length: usize, last: u8) -> Result<Vec<u8>, Fail> {
     let mut word = Vec::with_capacity(heap, length)?;
     let mut state: u32 = 1;
     for _ in 0..length {
         state = state.wrapping_mul(1_103_515_245).wrapping_add(12_345);
-        word.push(b'a' + (state >> 16 & 255) as u8 % few as u8)?;
+        word.push(b'a' + ((state >> 16 & 7) as u8).min(last))?;
     }
     Ok(word)
 }
@@ -68,8 +68,8 @@ fn an_empty_word(rt: HostRuntime) -> Result<(), Fail> {
 #[test]
 fn long_words(rt: HostRuntime) -> Result<(), Fail> {
     let heap = rt.alloc();
-    for few in 1..=5 {
-        let word = mixed(heap, 256, few)?;
+    for last in 0..5 {
+        let word = mixed(heap, 256, last)?;
         let system = one_equation(heap, b"X", b"Y")?;
         let given = two_words(word.as_slice(), (0, 256), (0, 256));
         let (witness, count) = found(heap, system, &given)?;
@@ -83,14 +83,17 @@ fn long_words(rt: HostRuntime) -> Result<(), Fail> {
 #[test]
 fn words_in_several_places(rt: HostRuntime) -> Result<(), Fail> {
     let heap = rt.alloc();
-    for few in 1..=4 {
-        let word = mixed(heap, 60, few)?;
+    for last in 0..4 {
+        let word = mixed(heap, 60, last)?;
         let mut system = one_equation(heap, b"XYX", b"XYX")?;
         system.load(b"YbX", b"YbX")?;
         let given = two_words(word.as_slice(), (0, 25), (25, 35));
         let (witness, _) = found(heap, system, &given)?;
-        spells(heap, &witness, X, &word.as_slice()[..25])?;
-        spells(heap, &witness, Y, &word.as_slice()[25..])?;
+        let Some((x, y)) = word.as_slice().split_at_checked(25) else {
+            return Err(Fail::new("the word is too short"));
+        };
+        spells(heap, &witness, X, x)?;
+        spells(heap, &witness, Y, y)?;
     }
     Ok(())
 }
