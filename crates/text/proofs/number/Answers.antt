@@ -1,13 +1,10 @@
 use Rattle.std.proofs.Common.{◌≡◌, ℕ, ◌^◌, ◌<◌, length, get_or, decimal, refl, ap, ◌∙◌, subst, arith}
 use Rattle.std.specs.Int.{IsInRange}
-use Rattle.text.specs.declared.part.Part.{Part}
-use Rattle.text.specs.declared.part.Token.{Token}
-use Rattle.text.specs.declared.part.Token.TheVariants.{Word, Number, LetterName}
 use Rattle.text.specs.Reading.{Below, Reads}
 use Rattle.text.specs.Pieces.{Bytes}
-use Rattle.text.specs.Tokens.{Holds}
-use Rattle.text.proofs.Numbers.{digit_first, exact_number}
+use Rattle.text.proofs.Numbers.{exact_number}
 use Rattle.text.proofs.Parts.{digit_some}
+use Rattle.text.proofs.Tokens.{other_token}
 use Rattle.text.proofs.number.Goals as goal
 
 some : (digits field : Bytes) → digits ≡ field → IsInRange 48 57 (get_or field 0 0) → 0 < length digits
@@ -21,14 +18,6 @@ returns-in-Number c =
     let first : IsInRange 48 57 (get_or c.args.field.now 0 0) = subst (λ bs. IsInRange 48 57 (get_or bs 0 0)) c.whole.ensures.bytes h.2 in
     subst (λ ds. Reads (Below (10 ^ 16)) decimal ds r) same (exact_number c.in-Number.digits.bytes.now r (some _ _ same first) c.value_of.ensures)
 
-other : (t : Token) (field : Part) → Holds t field → ((part : _) → t ≡ Number part → ⊥) → (n : ℕ) → n < 10 ^ 16 → field.bytes.now ≡ decimal n → ⊥
-other (Number part) field h none n lt e = none part refl
-other (Word part) field h none n lt e = h.3 (digit_first field.bytes.now n lt e)
-other (LetterName part) field h none n lt e =
-    let d = digit_first field.bytes.now n lt e in
-    let mark : 35 ≡ get_or field.bytes.now 0 0 = ap (λ l. get_or l 0 0) h.0 in
-    omega arith
-
 pub returns-in_default : goal.returns-in_default
 returns-in_default c =
-    rw (← c.whole.ensures.bytes) (other c.token_of.result c.whole.result c.token_of.ensures c.in_default.not-Number)
+    rw (← c.whole.ensures.bytes) (other_token c.token_of.result c.whole.result c.token_of.ensures c.in_default.not-Number)
