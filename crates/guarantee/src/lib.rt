@@ -8,6 +8,7 @@ ghost use Rattle.guarantee.specs.Guarantee.{Guarantee};
 ghost use Rattle.guarantee.specs.Worked.{WorkedCloses};
 
 use model::name::VariableName;
+use systems::Detail;
 use thiserror::Error;
 
 /// Why a close does not accept.
@@ -41,15 +42,15 @@ impl CloseRefusal {
         }
     }
 
-    // The variable or the equation that the refusal names.
-    pub fn detail(self) -> Option<u8>
+    /// The variable or the equation that the refusal names, if it names one.
+    pub fn detail(self) -> Option<Detail>
         ensures { result ≡ close_detail self }
     {
         match self {
             CloseRefusal::SmallTable => None,
-            CloseRefusal::StillLive(x) => Some(x),
-            CloseRefusal::SidesDiffer(i) => Some(i),
-            CloseRefusal::Fails(x) => Some(x),
+            CloseRefusal::StillLive(x) => Some(Detail::Variable(x)),
+            CloseRefusal::SidesDiffer(i) => Some(Detail::Equation(i)),
+            CloseRefusal::Fails(x) => Some(Detail::Variable(x)),
         }
     }
 }

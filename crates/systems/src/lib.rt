@@ -63,6 +63,15 @@ impl LoadRefusal {
     }
 }
 
+/// What a refusal names.
+#[derive(Clone, Copy, PartialEq, Eq, Debug)]
+pub enum Detail {
+    /// a variable, from A as 0
+    Variable(u8),
+    /// an equation by its number, from 1
+    Equation(u8),
+}
+
 /// Why a choice is not taken.
 #[derive(Clone, Copy, PartialEq, Eq, Debug, Error)]
 pub enum ChoiceRefusal {
@@ -110,12 +119,12 @@ impl ChoiceRefusal {
         }
     }
 
-    // The variable that the refusal names.
-    pub fn detail(self) -> Option<u8>
+    /// The variable that the refusal names, if it names one.
+    pub fn detail(self) -> Option<Detail>
         ensures { result ≡ choice_detail self }
     {
         match self {
-            ChoiceRefusal::NotLive(x) => Some(x),
+            ChoiceRefusal::NotLive(x) => Some(Detail::Variable(x)),
             ChoiceRefusal::UnknownLetter
             | ChoiceRefusal::EqualLetters
             | ChoiceRefusal::CountOutOfRange
