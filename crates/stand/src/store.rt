@@ -47,6 +47,15 @@ impl Stand {
         })
     }
 
+    /// Forgets all equations, rules and pops.
+    pub fn clear(&mut self)
+        ensures { self.new ≡ nothing_loaded }
+    {
+        self.sides.clear();
+        self.letters.clear();
+        self.pops.clear();
+    }
+
     // The sides.
     pub fn sides(&self) -> &Sides
         ensures { result.now ≡ self.now.equations }
