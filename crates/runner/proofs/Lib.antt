@@ -1,0 +1,5 @@
+pub mod Going
+pub mod Listing
+pub mod Loops
+pub mod Rows
+pub mod Tables

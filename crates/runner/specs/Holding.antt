@@ -1,10 +1,11 @@
 -- The limits in memory. Assumes nothing.
-use Rattle.std.specs.Prelude.{◌≡◌, List, map}
+use Rattle.std.specs.Prelude.{◌≡◌, ℕ, ◌<◌, List, map}
+use Rattle.length.specs.Limits.{InOrder}
 use Rattle.writing.specs.Writer.{variables}
 use Rattle.tables.specs.declared.types.Limit.{Limit}
 use Rattle.tables.specs.Written.{is_listed}
 use Rattle.runner.specs.declared.limits.Limits.{Limits}
-use Rattle.answers.specs.Limits.{leasts, mosts}
+use Rattle.answers.specs.Limits.{leasts, limit_of, mosts}
 
 -- they are those of these rows
 pub record Holds (held : Limits) (rows : List Limit) : Type 0 where
@@ -13,3 +14,4 @@ pub record Holds (held : Limits) (rows : List Limit) : Type 0 where
   pub listed : held.listed ≡ map (is_listed rows) variables
   pub kind_least : held.kind.least ≡ held.least
   pub kind_most : held.kind.most ≡ held.most
+  pub in_order : (x : ℕ) → x < 26 → InOrder (limit_of rows x).least (limit_of rows x).most

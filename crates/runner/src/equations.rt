@@ -20,9 +20,11 @@ fn load_row(system: &mut System, number: usize, line: &[u8]) -> Result<(), RunEr
         (BadEquation (loading system.old) number line.now) }
 {
     let sides = read_equation(line).map_err(|why| RunError::Line { line: number, why })?;
-    system
-        .load(sides.left, sides.right)
-        .map_err(|why| RunError::Load { line: number, why })
+    // a match, since the equation that a `map_err` would hide is named by its promise
+    match system.load(sides.left, sides.right) {
+        Ok(()) => Ok(()),
+        Err(why) => Err(RunError::Load { line: number, why }),
+    }
 }
 
 // Loads the equations of the first table.

@@ -59,12 +59,17 @@ impl Limits {
         let mut most = self.most;
         least[x] = row.least;
         most[x] = row.most;
-        let kind = Length::new(least, most).map_err(|why| RunError::Limits { line: number, why })?;
-        self.least = least;
-        self.most = most;
-        self.listed[x] = true;
-        self.kind = kind;
-        Ok(())
+        // a match, since both answers are named by the promise
+        match Length::new(least, most) {
+            Err(why) => Err(RunError::Limits { line: number, why }),
+            Ok(kind) => {
+                self.least = least;
+                self.most = most;
+                self.listed[x] = true;
+                self.kind = kind;
+                Ok(())
+            }
+        }
     }
 }
 
