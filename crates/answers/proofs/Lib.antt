@@ -1,0 +1,5 @@
+pub mod Limits
+pub mod Loaded
+pub mod Closing
+pub mod Plain
+pub mod Listed
