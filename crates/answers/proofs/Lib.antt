@@ -3,3 +3,4 @@ pub mod Loaded
 pub mod Closing
 pub mod Plain
 pub mod Listed
+pub mod Before
