@@ -135,8 +135,7 @@ Closed input why = (close : CloseRefusal) × (t : Tables) × (S : Standing) × (
 
 closed : (input : Bytes) (why : CloseRefusal) → length input ≤ 32768 → CloseRefused (lines_of input) why → Closed input (Close why)
 closed input why short h =
-    let all = h.4 in
-    (
+    let all = h.4 in (
       why,
       record { equations = h.0; limits = h.1; choices = h.2 },
       h.3,

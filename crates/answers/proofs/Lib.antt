@@ -1,6 +1,9 @@
+pub mod Known
+pub mod Read
 pub mod Limits
 pub mod Loaded
 pub mod Closing
 pub mod Plain
 pub mod Listed
 pub mod Before
+pub mod Needless

@@ -20,9 +20,10 @@ use Rattle.answers.specs.declared.errors.RunError.TheVariants.{TooLong}
 use Rattle.answers.specs.Answers.{Answer, Answers, Accepted, closes}
 use Rattle.answers.specs.Limits.{IsWithin}
 use Rattle.answers.specs.Printing.{error_text}
-use Rattle.answers.specs.Theorems.{ReadAs, Carried, ListedExactly, TablesAreRead, Sound}
+use Rattle.answers.specs.Theorems.{ReadAs, Carried, ListedExactly, Sound}
 use Rattle.answers.proofs.Closing.{AllWithin, witness_valid, words_solve, words_within, accepted_only, accepted_always, spells}
 use Rattle.answers.proofs.Loaded.{each_solved}
+use Rattle.answers.proofs.Read.{tables_are_read}
 use Rattle.answers.proofs.Plain.{writable_read}
 
 -- all is taken and the close accepts with this witness
@@ -36,12 +37,15 @@ not_too_long c e = let z : ◌≡◌ {A = ℕ} 0 1 = cc in omega arith
 
 listed_lines : (input : Bytes) (c : Contents) → length input ≤ 32768 → Accepted (lines_of input) c → (t : Tables) × (S : Standing) × Listed input c t S
 listed_lines input c short h =
-    let all = h.4 in
-    (record { equations = h.0; limits = h.1; choices = h.2 }, h.3, record {
-      carried = record { short = short; read = record { writable = writable_read input h.0 h.1 h.2 all.taken all.are; are = all.are }; taken = all };
-      free = h.5;
-      is = h.6;
-    })
+    let all = h.4 in (
+      record { equations = h.0; limits = h.1; choices = h.2 },
+      h.3,
+      record {
+        carried = record { short = short; read = record { writable = writable_read input h.0 h.1 h.2 all.taken all.are; are = all.are }; taken = all };
+        free = h.5;
+        is = h.6;
+      },
+    )
 
 pub listed : (input : Bytes) (c : Contents) → Answers input (Ok c) → (t : Tables) × (S : Standing) × Listed input c t S
 listed input c (inl long) = absurd (not_too_long c long.1)
@@ -66,14 +70,14 @@ listed_exactly = record {
 same_standing : (input : Bytes) (c : Contents) (t : Tables) (S T : Standing) → Carried input t S → Listed input c t T → Listed input c t S
 same_standing input c t S T carried h = subst (Listed input c t) (calls_decide_what_stands.same t.equations t.choices T S h.carried.taken.reaches carried.taken.reaches) h
 
-pub listed_tables : TablesAreRead → (input : Bytes) (c : Contents) (t : Tables) → ReadAs input t → Answers input (Ok c) → (S : Standing) × Listed input c t S
-listed_tables tables input c t read answer =
+pub listed_tables : (input : Bytes) (c : Contents) (t : Tables) → ReadAs input t → Answers input (Ok c) → (S : Standing) × Listed input c t S
+listed_tables input c t read answer =
     let h = listed input c answer in
-    (h.1, subst (λ u. Listed input c u h.1) (tables.same h.0 t input h.2.carried.read read) h.2)
+    (h.1, subst (λ u. Listed input c u h.1) (tables_are_read.same h.0 t input h.2.carried.read read) h.2)
 
-pub listed_there : TablesAreRead → (input : Bytes) (c : Contents) (t : Tables) (S : Standing) → Carried input t S → Answers input (Ok c) → Listed input c t S
-listed_there tables input c t S carried answer =
-    let h = listed_tables tables input c t carried.read answer in
+pub listed_there : (input : Bytes) (c : Contents) (t : Tables) (S : Standing) → Carried input t S → Answers input (Ok c) → Listed input c t S
+listed_there input c t S carried answer =
+    let h = listed_tables input c t carried.read answer in
     same_standing input c t S h.0 carried h.1
 
 -- what is so of every listing that is answered
@@ -88,13 +92,13 @@ spoken input c t S h =
 listed_valid : (input : Bytes) (c : Contents) (t : Tables) (S : Standing) → Listed input c t S → valid c ≡ true
 listed_valid input c t S h = subst (λ c. valid c ≡ true) (sym h.is) (witness_valid t.equations t.limits t.choices S h.carried.taken.reaches h.free)
 
-pub sound : TablesAreRead → Sound
-sound tables input c d t answer read ok same =
-    let h = listed_tables tables input c t read answer in
+pub sound : Sound
+sound input c d t answer read ok same =
+    let h = listed_tables input c t read answer in
     let is : c ≡ d = one_contents c d (listed_valid input c t h.0 h.1) ok (sym same) in
     subst (λ c. AllByRecursion (λ e. fill (words_of c) (side_of e.0) ≡ fill (words_of c) (side_of e.1)) t.equations × AllWithin t.equations t.limits (words_of c)) is (spoken input c t h.0 h.1)
 
-module _ (tables : TablesAreRead) (input : Bytes) (t : Tables) (S : Standing) (σ τ : Words) (carried : Carried input t S) (solution : Solution σ (loaded t.equations)) (follows : Follows t.equations σ t.choices S τ) where
+module _ (input : Bytes) (t : Tables) (S : Standing) (σ τ : Words) (carried : Carried input t S) (solution : Solution σ (loaded t.equations)) (follows : Follows t.equations σ t.choices S τ) where
   run : Reaches t.equations t.choices S
   run = carried.taken.reaches
 
@@ -103,7 +107,7 @@ module _ (tables : TablesAreRead) (input : Bytes) (t : Tables) (S : Standing) (�
 
   module _ (c : Contents) (answer : Answers input (Ok c)) where
     there : Listed input c t S
-    there = listed_there tables input c t S carried answer
+    there = listed_there input c t S carried answer
 
     pub listed_within : NoneLive S × AllWithin t.equations t.limits σ
     listed_within = accepted_only t.equations t.limits t.choices S run σ τ solution follows there.free

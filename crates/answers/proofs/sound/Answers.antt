@@ -2,4 +2,4 @@ use Rattle.answers.proofs.Listed.{sound}
 use Rattle.answers.proofs.sound.Goals as goal
 
 pub returns : goal.returns
-returns c = sound ?
+returns c = sound
