@@ -32,16 +32,16 @@ use Rattle.answers.proofs.Plain.{writable_read}
 
 -- tables without rows are taken
 
-pub no_middle : {A : Type 0} (before behind : List A) (x : A) → [] ≡ before ++ (x ∷ behind) → ⊥
+no_middle : {A : Type 0} (before behind : List A) (x : A) → [] ≡ before ++ (x ∷ behind) → ⊥
 no_middle before behind x e = omega (arith, ap length e, length-append before (x ∷ behind))
 
 no_limits : ListedOnce []
 no_limits before behind l e = absurd (no_middle before behind l e)
 
-pub second_begun : (equations : List Load) → FirstTaken equations → SecondTaken equations []
+second_begun : (equations : List Load) → FirstTaken equations → SecondTaken equations []
 second_begun equations h = record { first = h; rows = tt; once = no_limits; in_order = tt }
 
-pub third_begun : (equations : List Load) (limits : List Limit) → SecondTaken equations limits → ThirdTaken equations limits []
+third_begun : (equations : List Load) (limits : List Limit) → SecondTaken equations limits → ThirdTaken equations limits []
 third_begun equations limits h = record { second = h; rows = tt; chosen = λ before behind choice S e. absurd (no_middle before behind choice e) }
 
 nothing_taken : ThirdTaken [] [] []

@@ -1,5 +1,5 @@
 -- What the close of a run keeps: the guarantee, with words within the limits. Assumes nothing.
-use Rattle.std.proofs.Common.{◌≡◌, ℕ, ◌+◌, ◌<◌, ◌≤◌, Bool, true, false, cond, List, [], length, replicate, is_some, Some, None, Option, sym, refl, ap, ◌∙◌, subst, arith}
+use Rattle.std.proofs.Common.{◌≡◌, ℕ, ◌<◌, ◌≤◌, true, cond, List, [], length, replicate, is_some, Some, None, sym, ap, ◌∙◌, subst, arith}
 use Rattle.std.proofs.lemmas.List.{length-replicate}
 use Rattle.model.specs.Witnesses.{Contents, valid, spelled}
 use Rattle.systems.specs.declared.Choice.{Choice}
@@ -29,13 +29,13 @@ no_witness = record { rules = []; entries = [] }
 abbrev pub AllWithin : List Load → List Limit → Words → Type 0
 AllWithin loads limits w = (x : ℕ) → OfSystem loads x → IsWithin limits x (w x)
 
-pub low : (loads : List Load) (x : ℕ) → OfSystem loads x → x < 26
+low : (loads : List Load) (x : ℕ) → OfSystem loads x → x < 26
 low loads x of = live_low (opened loads) (opened_formed loads) x of
 
-pub passing_within : (loads : List Load) (limits : List Limit) (w : Words) → AllPass (judging limits) loads w → AllWithin loads limits w
+passing_within : (loads : List Load) (limits : List Limit) (w : Words) → AllPass (judging limits) loads w → AllWithin loads limits w
 passing_within loads limits w pass x of = passing_is_within limits x (w x) (low loads x of) (pass x of)
 
-pub within_passing : (loads : List Load) (limits : List Limit) (w : Words) → AllWithin loads limits w → AllPass (judging limits) loads w
+within_passing : (loads : List Load) (limits : List Limit) (w : Words) → AllWithin loads limits w → AllPass (judging limits) loads w
 within_passing loads limits w within x of = within_passes limits x (w x) (low loads x of) (within x of)
 
 -- no run makes more letters than the table has room for

@@ -1,12 +1,10 @@
 -- A word passes exactly if it is within the limits. Assumes nothing.
-use Rattle.std.proofs.Common.{◌≡◌, ℕ, zero, suc, ◌+◌, ◌<◌, ◌≤◌, Bool, true, List, [], ◌∷◌, map, length, min, get_or, slice_index, leb, leb-true, le-leb, sym, refl, ap, ◌∙◌, subst, arith}
+use Rattle.std.proofs.Common.{◌≡◌, ℕ, zero, suc, ◌+◌, ◌<◌, true, List, [], ◌∷◌, map, length, min, slice_index, leb, leb-true, le-leb, ap, ◌∙◌, arith}
 use Rattle.std.proofs.lemmas.Bool.{and_parts, and_from}
 use Rattle.model.specs.Spelling.{Word}
 use Rattle.writing.specs.Writer.{from, variables}
 use Rattle.guarantee.specs.Closing.{value_of}
-use Rattle.length.specs.Capped.{capped, longer}
 use Rattle.length.specs.Theorems.{ValueIsCappedLength}
-use Rattle.systems.specs.Values.{word_value}
 use Rattle.tables.specs.declared.types.Limit.{Limit}
 use Rattle.answers.specs.Limits.{limit_of, leasts, mosts, judging, IsWithin}
 

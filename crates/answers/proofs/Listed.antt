@@ -1,12 +1,11 @@
 -- When a listing is answered, and what it says. Assumes nothing.
-use Rattle.std.proofs.Common.{◌≡◌, ℕ, ◌<◌, ◌≤◌, true, List, [], ◌∷◌, length, get_or, Some, None, Ok, Err, ◌≢◌, ◌⊎◌, sym, refl, ap, ◌∙◌, subst, inl, inr, arith}
+use Rattle.std.proofs.Common.{◌≡◌, ℕ, ◌≤◌, true, length, get_or, Some, None, Ok, Err, ◌≢◌, sym, refl, ap, subst, inl, inr, arith}
 use Rattle.std.specs.List.{AllByRecursion}
 use Rattle.model.specs.Witnesses.{Contents, valid, spelled}
 use Rattle.systems.specs.Loading.{side_of}
-use Rattle.systems.specs.Runs.{Load, loaded, OfSystem, Reaches, Follows}
+use Rattle.systems.specs.Runs.{loaded, OfSystem, Reaches, Follows}
 use Rattle.systems.specs.Sides.{stands_in, Words, fill, Solution}
 use Rattle.systems.specs.Standings.{Standing}
-use Rattle.systems.specs.Theorems.{CallsDecideWhatStands}
 use Rattle.systems.proofs.Determined.{calls_decide_what_stands}
 use Rattle.guarantee.specs.Closing.{witness}
 use Rattle.guarantee.specs.Guarantee.{NoneLive, words_of}
@@ -18,7 +17,6 @@ use Rattle.tables.specs.Written.{Tables}
 use Rattle.answers.specs.declared.errors.RunError.{RunError}
 use Rattle.answers.specs.declared.errors.RunError.TheVariants.{TooLong}
 use Rattle.answers.specs.Answers.{Answer, Answers, Accepted, closes}
-use Rattle.answers.specs.Limits.{IsWithin}
 use Rattle.answers.specs.Printing.{error_text}
 use Rattle.answers.specs.Theorems.{ReadAs, Carried, ListedExactly, Sound}
 use Rattle.answers.proofs.Closing.{AllWithin, witness_valid, words_solve, words_within, accepted_only, accepted_always, spells}
@@ -32,7 +30,7 @@ pub record Listed (input : Bytes) (c : Contents) (t : Tables) (S : Standing) : T
   pub free : closes t.equations t.limits S ≡ None
   pub is : c ≡ witness (stands_in (loaded t.equations)) S
 
-pub not_too_long : (c : Contents) → ◌≡◌ {A = Answer} (Ok c) (Err TooLong) → ⊥
+not_too_long : (c : Contents) → ◌≡◌ {A = Answer} (Ok c) (Err TooLong) → ⊥
 not_too_long c e = let z : ◌≡◌ {A = ℕ} 0 1 = cc in omega arith
 
 listed_lines : (input : Bytes) (c : Contents) → length input ≤ 32768 → Accepted (lines_of input) c → (t : Tables) × (S : Standing) × Listed input c t S
@@ -47,11 +45,11 @@ listed_lines input c short h =
       },
     )
 
-pub listed : (input : Bytes) (c : Contents) → Answers input (Ok c) → (t : Tables) × (S : Standing) × Listed input c t S
+listed : (input : Bytes) (c : Contents) → Answers input (Ok c) → (t : Tables) × (S : Standing) × Listed input c t S
 listed input c (inl long) = absurd (not_too_long c long.1)
 listed input c (inr lines) = listed_lines input c lines.0 lines.1
 
-pub answered : (input : Bytes) (t : Tables) (S : Standing) → Carried input t S → closes t.equations t.limits S ≡ None → Answers input (Ok (witness (stands_in (loaded t.equations)) S))
+answered : (input : Bytes) (t : Tables) (S : Standing) → Carried input t S → closes t.equations t.limits S ≡ None → Answers input (Ok (witness (stands_in (loaded t.equations)) S))
 answered input t S carried free = inr (carried.short, (t.equations, t.limits, t.choices, S, carried.taken, free, refl))
 
 -- a refusal begins with r, a listing with l
@@ -70,12 +68,12 @@ listed_exactly = record {
 same_standing : (input : Bytes) (c : Contents) (t : Tables) (S T : Standing) → Carried input t S → Listed input c t T → Listed input c t S
 same_standing input c t S T carried h = subst (Listed input c t) (calls_decide_what_stands.same t.equations t.choices T S h.carried.taken.reaches carried.taken.reaches) h
 
-pub listed_tables : (input : Bytes) (c : Contents) (t : Tables) → ReadAs input t → Answers input (Ok c) → (S : Standing) × Listed input c t S
+listed_tables : (input : Bytes) (c : Contents) (t : Tables) → ReadAs input t → Answers input (Ok c) → (S : Standing) × Listed input c t S
 listed_tables input c t read answer =
     let h = listed input c answer in
     (h.1, subst (λ u. Listed input c u h.1) (tables_are_read.same h.0 t input h.2.carried.read read) h.2)
 
-pub listed_there : (input : Bytes) (c : Contents) (t : Tables) (S : Standing) → Carried input t S → Answers input (Ok c) → Listed input c t S
+listed_there : (input : Bytes) (c : Contents) (t : Tables) (S : Standing) → Carried input t S → Answers input (Ok c) → Listed input c t S
 listed_there input c t S carried answer =
     let h = listed_tables input c t carried.read answer in
     same_standing input c t S h.0 carried h.1

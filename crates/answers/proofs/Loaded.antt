@@ -1,5 +1,5 @@
 -- Where each load is taken, what is loaded are the sides of all equations, in turn. Assumes nothing.
-use Rattle.std.proofs.Common.{◌≡◌, ℕ, Bool, List, [], ◌∷◌, ◌++◌, map, is_some, None, Option, sym, refl, ap, ◌∙◌, subst, append_assoc, append-nil}
+use Rattle.std.proofs.Common.{◌≡◌, ℕ, List, [], ◌∷◌, ◌++◌, map, is_some, None, sym, refl, ap, ◌∙◌, subst, append_assoc, append-nil}
 use Rattle.std.specs.List.{AllByRecursion}
 use Rattle.std.proofs.lemmas.Bool.{cond-false}
 use Rattle.systems.specs.Loading.{side_of, loaded_too, load_refusal, after_load}
@@ -9,7 +9,7 @@ use Rattle.systems.specs.Standings.{Standing, new}
 use Rattle.answers.specs.Taken.{EachLoaded}
 
 -- the equation that a load stands for
-abbrev pub equation_of : Load → Equation
+abbrev equation_of : Load → Equation
 equation_of e = (side_of e.0, side_of e.1)
 
 load_taken : (S : Standing) (left right : List ℕ) → load_refusal S left right ≡ None → after_load S left right ≡ loaded_too S left right
@@ -22,7 +22,7 @@ all_loaded S (e ∷ loads) each =
     ap (λ T. T.equations ++ map equation_of loads) (load_taken S e.0 e.1 (each [] loads e refl)) ∙
     append_assoc S.equations (equation_of e ∷ []) (map equation_of loads)
 
-pub loaded_are : (loads : List Load) → EachLoaded loads → loaded loads ≡ map equation_of loads
+loaded_are : (loads : List Load) → EachLoaded loads → loaded loads ≡ map equation_of loads
 loaded_are loads each = all_loaded new loads each
 
 mapped : (τ : Words) (loads : List Load) → Solves τ (map equation_of loads) → AllByRecursion (λ e. fill τ (side_of e.0) ≡ fill τ (side_of e.1)) loads

@@ -1,5 +1,5 @@
 -- What a run answers at the line of a choice, where all lines before it are taken: that this choice is refused, or nothing. Assumes nothing.
-use Rattle.std.proofs.Common.{◌≡◌, ℕ, suc, ◌+◌, ◌<◌, ◌≤◌, true, List, [], ◌∷◌, ◌++◌, map, length, take, drop, Some, None, Err, Option, ◌≢◌, ◌⊎◌, sym, refl, ap, ap₂, ◌∙◌, subst, subst₂, inl, inr, append_assoc, length-append, arith, lit≤}
+use Rattle.std.proofs.Common.{◌≡◌, ℕ, suc, ◌+◌, ◌≤◌, List, [], ◌∷◌, ◌++◌, length, take, drop, Some, Err, ◌≢◌, sym, refl, ap, ap₂, ◌∙◌, subst, subst₂, inl, inr, append_assoc, length-append, arith}
 use Rattle.std.specs.List.{AllByRecursion}
 use Rattle.std.proofs.ByRecursion.{All-push}
 use Rattle.std.proofs.Math.Seq.{take-append_seam, drop-append_seam}
@@ -7,7 +7,7 @@ use Rattle.std.proofs.lemmas.List.{map-append}
 use Rattle.systems.specs.declared.Choice.{Choice}
 use Rattle.systems.specs.declared.ChoiceRefusal.{ChoiceRefusal}
 use Rattle.systems.specs.Fitting.{Fits}
-use Rattle.systems.specs.Refusals.{choice_refusal, choice_number}
+use Rattle.systems.specs.Refusals.{choice_refusal}
 use Rattle.systems.specs.Runs.{Load, loaded, Reaches, Follows}
 use Rattle.systems.specs.Sides.{Words, Solution}
 use Rattle.systems.specs.Standings.{Standing}
@@ -28,10 +28,10 @@ use Rattle.tables.specs.Written.{Tables, IsWritable, rows, first_lines, second_l
 use Rattle.tables.proofs.Texts.{lines_plain}
 use Rattle.answers.specs.declared.errors.RunError.{RunError}
 use Rattle.answers.specs.declared.errors.RunError.TheVariants.{Buffer, TooLong, Line, Load as NotLoaded, Limits, Choice as NotChosen, Close}
-use Rattle.answers.specs.Answers.{Answer, Answers, Comes, Unnamed, NamesRefused, RowRefused, ChoiceRefused, Refused}
+use Rattle.answers.specs.Answers.{Answers, Comes, Unnamed, NamesRefused, RowRefused, ChoiceRefused, Refused}
 use Rattle.answers.specs.Errors.{run_line, run_number}
 use Rattle.answers.specs.Taken.{FirstTaken, SecondTaken, ThirdTaken}
-use Rattle.answers.specs.Theorems.{ReadAs, Complete}
+use Rattle.answers.specs.Theorems.{Complete}
 use Rattle.answers.proofs.Known.{Known, row_some, row_not, equations_known, limits_known, choices_known}
 use Rattle.answers.proofs.Listed.{solution_listed, listed_within, listed_words}
 use Rattle.answers.proofs.Plain.{front_of, writable_of}
@@ -207,7 +207,7 @@ module _ (input : Bytes) (equations : List Load) (limits : List Limit) (choices 
   only_this (NotChosen n why) h at = this_choice n why h at
   only_this (Close why) h at = absurd (omega (arith, number, at))
 
-  pub chosen_here : (why : RunError) → Answers input (Err why) → run_line why ≡ line → Chosen why
+  chosen_here : (why : RunError) → Answers input (Err why) → run_line why ≡ line → Chosen why
   chosen_here why (inl long) at = let is : why ≡ TooLong = cc in absurd (omega (arith, ap run_line is, number, at))
   chosen_here why (inr h) at = only_this why h.1 at
 
@@ -222,7 +222,7 @@ module _ (input : Bytes) (equations : List Load) (limits : List Limit) (choices 
 
 pub complete : Complete
 complete = record {
-  accepts = λ input t S σ τ carried solution follows none within. solution_listed input t S σ τ carried solution follows none within;
+  accepts = solution_listed;
   only = λ input t S σ τ c carried solution follows answer. listed_within input t S σ τ carried solution follows c answer;
   same_words = λ input t S σ τ c carried solution follows answer x of. listed_words input t S σ τ carried solution follows c answer x of;
   no_needless_refusal = λ input equations limits choices choice S σ τ τ' line why taken is comes solution follows fits answer at. by_limit input equations limits choices choice line taken is comes S σ τ τ' why solution follows fits answer at;

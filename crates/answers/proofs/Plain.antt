@@ -1,15 +1,13 @@
 -- Tables that are read can be written: their fields have no newline. Assumes nothing.
-use Rattle.std.proofs.Common.{◌≡◌, ℕ, Bool, true, not, eqb, List, [], ◌∷◌, ◌++◌, sym, refl, ap, ◌∙◌, subst}
+use Rattle.std.proofs.Common.{◌≡◌, ℕ, true, not, eqb, List, [], ◌∷◌, ◌++◌, refl, subst}
 use Rattle.std.specs.List.{AllByRecursion}
 use Rattle.std.proofs.lemmas.Bool.{and_parts, and_from}
 use Rattle.systems.specs.declared.Choice.{Choice}
 use Rattle.systems.specs.Runs.{Load}
 use Rattle.text.specs.Pieces.{Bytes, Line, free}
 use Rattle.tables.specs.declared.types.Limit.{Limit}
-use Rattle.tables.specs.declared.types.Table.TheVariants.{Equations}
 use Rattle.tables.specs.Fields.{line_of}
 use Rattle.tables.specs.Lines.{lines_of}
-use Rattle.tables.specs.Names.{names}
 use Rattle.tables.specs.Rows.{equation_fields, side_text}
 use Rattle.tables.specs.Written.{Tables, IsWritable, rows, first_lines, second_lines, third_lines}
 use Rattle.tables.proofs.Texts.{lines_plain}
