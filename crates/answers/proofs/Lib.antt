@@ -1,3 +1,4 @@
 pub mod Known
 pub mod Read
 pub mod Steps
+pub mod Same

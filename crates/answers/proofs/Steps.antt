@@ -1,5 +1,5 @@
 -- Reading lines one by one: where a reader stands, and what the next line makes of it. Assumes nothing.
-use Rattle.std.proofs.Common.{◌≡◌, ℕ, suc, ◌+◌, ◌<◌, ◌≤◌, true, false, Bool, ltb, List, [], ◌∷◌, ◌++◌, length, Some, None, Ok, Err, Option, sym, refl, ap, ◌∙◌, subst, ⊎_elim, inl, inr, arith, ◌≢◌, ◌⊎◌}
+use Rattle.std.proofs.Common.{◌≡◌, ℕ, suc, true, false, Bool, ltb, List, [], ◌∷◌, ◌++◌, Some, None, Ok, Err, Option, sym, ap, ◌∙◌, subst, inl, inr, arith, ◌≢◌, ◌⊎◌}
 use Rattle.systems.specs.declared.Choice.{Choice}
 use Rattle.systems.specs.declared.ChoiceRefusal.{ChoiceRefusal}
 use Rattle.systems.specs.declared.LoadRefusal.{LoadRefusal}
