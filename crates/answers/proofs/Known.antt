@@ -1,5 +1,5 @@
 -- Rows are known from their lines, and a line is a row or none, for one reason. Assumes nothing.
-use Rattle.std.proofs.Common.{◌≡◌, ℕ, ◌+◌, ◌^◌, ◌<◌, ◌≤◌, true, List, [], ◌∷◌, ◌++◌, length, codes, decimal, get_or, sym, refl, ap, ◌∙◌, subst, ⊎_elim, inl, inr, append_assoc, length-append, arith, lit<, lit≤, ◌≢◌, ◌⊎◌}
+use Rattle.std.proofs.Common.{◌≡◌, ℕ, ◌+◌, ◌<◌, ◌≤◌, true, List, [], ◌∷◌, ◌++◌, length, codes, decimal, get_or, sym, refl, ap, ◌∙◌, ⊎_elim, inl, inr, append_assoc, arith, lit<, lit≤, ◌≢◌, ◌⊎◌}
 use Rattle.std.specs.List.{AllByRecursion}
 use Rattle.std.proofs.lemmas.Fmt.{decimal_injective}
 use Rattle.systems.specs.declared.Choice.{Choice}
@@ -172,7 +172,7 @@ choice_count (Erase x) = refl
 choice_count (Pair a b) = refl
 choice_count (Block a n) = refl
 
--- the letter or variable and the letter or number behind it
+-- letters that may be made are known from their names
 letters : (a b : ℕ) → a < 538 → b < 538 → letter_name a ≡ letter_name b → a ≡ b
 letters a b g h e = same_letter a b (omega arith) (omega arith) e
 

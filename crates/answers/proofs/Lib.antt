@@ -1,5 +1,7 @@
 pub mod Known
 pub mod Read
+pub mod Steps
+pub mod Same
 pub mod Limits
 pub mod Loaded
 pub mod Closing

@@ -1,19 +1,19 @@
 -- Tables are known from their text. Assumes nothing.
-use Rattle.std.proofs.Common.{◌≡◌, ℕ, ◌<◌, true, List, [], ◌∷◌, ◌++◌, codes, sym, refl, ap, ◌∙◌, subst, append_assoc, arith, lit<, ◌≢◌}
+use Rattle.std.proofs.Common.{◌≡◌, ℕ, List, [], ◌∷◌, ◌++◌, sym, refl, ◌∙◌, subst, append_assoc, arith, lit<}
 use Rattle.std.specs.List.{AllByRecursion}
 use Rattle.systems.specs.declared.Choice.{Choice}
 use Rattle.systems.specs.Runs.{Load}
-use Rattle.text.specs.Pieces.{Bytes, Line, free}
+use Rattle.text.specs.Pieces.{Bytes, Line}
 use Rattle.text.proofs.Cuts.{free_between}
 use Rattle.tables.specs.declared.types.Limit.{Limit}
 use Rattle.tables.specs.declared.types.Table.TheVariants.{Equations, Limits, Choices}
 use Rattle.tables.specs.Fields.{line_of}
-use Rattle.tables.specs.Lines.{lines_of, IsTextOf}
+use Rattle.tables.specs.Lines.{IsTextOf}
 use Rattle.tables.specs.Names.{names}
 use Rattle.tables.specs.Rows.{equation_fields, limit_fields, choice_fields, side_text, IsEquation, IsLimit, IsChoice}
-use Rattle.tables.specs.Written.{Tables, IsWritable, rows, first_lines, second_lines, third_lines, lines}
+use Rattle.tables.specs.Written.{Tables, IsWritable, rows, first_lines, third_lines, lines}
 use Rattle.tables.proofs.Texts.{lines_are_written}
-use Rattle.answers.specs.Theorems.{ReadAs, TablesAreRead}
+use Rattle.answers.specs.Theorems.{TablesAreRead}
 use Rattle.answers.proofs.Known.{Known, same_row, row_some, equations_known, limits_known, choices_known, Lack, limit_lacks, choice_lacks}
 
 -- the three tables in turn
