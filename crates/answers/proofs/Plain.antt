@@ -9,7 +9,7 @@ use Rattle.tables.specs.declared.types.Limit.{Limit}
 use Rattle.tables.specs.Fields.{line_of}
 use Rattle.tables.specs.Lines.{lines_of}
 use Rattle.tables.specs.Rows.{equation_fields, side_text}
-use Rattle.tables.specs.Written.{Tables, IsWritable, rows, first_lines, second_lines, third_lines}
+use Rattle.tables.specs.Written.{IsWritable, rows, first_lines, second_lines, third_lines}
 use Rattle.tables.proofs.Texts.{lines_plain}
 use Rattle.answers.specs.Taken.{ThirdTaken}
 
