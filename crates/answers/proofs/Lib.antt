@@ -1,0 +1,11 @@
+pub mod Known
+pub mod Read
+pub mod Steps
+pub mod Same
+pub mod Limits
+pub mod Loaded
+pub mod Closing
+pub mod Plain
+pub mod Listed
+pub mod Before
+pub mod Needless

@@ -1,4 +1,5 @@
+use Rattle.answers.proofs.Same.{one_answer}
 use Rattle.answers.proofs.one_answer.Goals as goal
 
 pub returns : goal.returns
-returns c = ?
+returns c = one_answer

@@ -1,4 +1,5 @@
+use Rattle.answers.proofs.Before.{refused_rightly}
 use Rattle.answers.proofs.refused_rightly.Goals as goal
 
 pub returns : goal.returns
-returns c = ?
+returns c = refused_rightly

@@ -1,4 +1,5 @@
+use Rattle.answers.proofs.Listed.{sound}
 use Rattle.answers.proofs.sound.Goals as goal
 
 pub returns : goal.returns
-returns c = ?
+returns c = sound

@@ -1,4 +1,5 @@
+use Rattle.answers.proofs.Read.{tables_are_read}
 use Rattle.answers.proofs.tables_are_read.Goals as goal
 
 pub returns : goal.returns
-returns c = ?
+returns c = tables_are_read
