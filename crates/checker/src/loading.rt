@@ -42,6 +42,16 @@ impl System {
         self.stand.load(left, right)
     }
 
+    /// A new system, with no equation, in the memory of this one.
+    pub fn cleared(self) -> System
+        ensures stands { loading result ≡ nothing_loaded }
+        ensures run { AfterLoads [] (loading result) }
+    {
+        let System { mut stand } = self;
+        stand.clear();
+        System { stand }
+    }
+
     // Ends the loading.
     pub fn open(self) -> Check
         ensures stands { standing result ≡ loading self }

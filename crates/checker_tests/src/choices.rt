@@ -1,7 +1,7 @@
 // Choices that are refused, in the order of their reasons, and what is left then.
 use crate::tools::{FIRST, X, Y, answers, chosen, close};
 use std::test::Fail;
-use systems::{Choice, ChoiceRefusal};
+use systems::{Choice, ChoiceRefusal, Detail};
 use witness::Witness;
 
 #[test]
@@ -89,7 +89,7 @@ fn a_refused_choice_changes_nothing(rt: HostRuntime) -> Result<(), Fail> {
 #[test]
 fn numbers_and_details_of_choice_refusals(rt: HostRuntime) {
     let expected = [
-        (ChoiceRefusal::NotLive(X), 11, Some(X)),
+        (ChoiceRefusal::NotLive(X), 11, Some(Detail::Variable(X))),
         (ChoiceRefusal::UnknownLetter, 12, None),
         (ChoiceRefusal::EqualLetters, 13, None),
         (ChoiceRefusal::CountOutOfRange, 14, None),

@@ -6,7 +6,7 @@ use length::kind::Length;
 use model::Rule;
 use std::alloc::Global;
 use std::test::Fail;
-use systems::Choice;
+use systems::{Choice, Detail};
 use witness::Witness;
 
 // Choices that find X = ab and Y = a for Xa = abY.
@@ -201,9 +201,9 @@ fn limits_of_other_variables_do_not_count(rt: HostRuntime) -> Result<(), Fail> {
 fn numbers_and_details_of_close_refusals(rt: HostRuntime) {
     let expected = [
         (CloseRefusal::SmallTable, 30, None),
-        (CloseRefusal::StillLive(X), 31, Some(X)),
-        (CloseRefusal::SidesDiffer(2), 32, Some(2)),
-        (CloseRefusal::Fails(X), 33, Some(X)),
+        (CloseRefusal::StillLive(X), 31, Some(Detail::Variable(X))),
+        (CloseRefusal::SidesDiffer(2), 32, Some(Detail::Equation(2))),
+        (CloseRefusal::Fails(X), 33, Some(Detail::Variable(X))),
     ];
     for (refusal, number, detail) in expected {
         assert_eq!(rt; refusal.number(), number);

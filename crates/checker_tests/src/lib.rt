@@ -11,4 +11,6 @@ mod limits;
 #[cfg(test)]
 mod loads;
 #[cfg(test)]
+mod messages;
+#[cfg(test)]
 mod tools;

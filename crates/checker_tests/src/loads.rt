@@ -1,8 +1,8 @@
 // Loading, and what it refuses.
-use crate::tools::one_equation;
+use crate::tools::{FIRST, X, Y, one_equation};
 use checker::System;
 use std::test::Fail;
-use systems::LoadRefusal;
+use systems::{Choice, ChoiceRefusal, LoadRefusal};
 
 // Each load is refused so, or taken where there is no refusal beside it.
 fn loads(
@@ -71,6 +71,28 @@ fn letters_are_a_to_z_and_capitals(rt: HostRuntime) -> Result<(), Fail> {
         );
     }
     assert_eq!(rt; system.sides().len(), 6);
+    Ok(())
+}
+
+#[test]
+fn a_system_and_a_check_give_their_memory_back(rt: HostRuntime) -> Result<(), Fail> {
+    let heap = rt.alloc();
+    let mut system = one_equation(heap, b"Xa", b"aX")?.cleared();
+    assert_eq!(rt; system.sides().len(), 0);
+    system.load(b"X", b"a")?;
+    let mut opened = system.open();
+    opened.choose(Choice::Left(X, 0))?;
+    opened.choose(Choice::Pair(0, 1))?;
+    let mut again = opened.cleared();
+    assert_eq!(rt; again.sides().len(), 0);
+    again.load(b"Y", b"")?;
+    assert_eq!(rt; again.sides().len(), 1);
+    // no rule is left: the next letter is the first again
+    let mut opened = again.open();
+    assert_eq!(rt;
+        opened.choose(Choice::Left(Y, FIRST)).err(),
+        Some(ChoiceRefusal::UnknownLetter)
+    );
     Ok(())
 }
 

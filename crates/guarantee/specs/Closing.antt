@@ -3,6 +3,8 @@ use Rattle.std.specs.Prelude.{ℕ, zero, suc, Bool, true, false, cond, not, ◌&
 use Rattle.std.specs.Option.{option_map}
 use Rattle.model.specs.Spelling.{Word, spell, spell_word}
 use Rattle.model.specs.Witnesses.{Entry, Contents}
+use Rattle.systems.specs.declared.Detail.{Detail}
+use Rattle.systems.specs.declared.Detail.TheVariants as detail
 use Rattle.systems.specs.declared.Place.{Place}
 use Rattle.systems.specs.declared.Place.TheVariants.{Letter, Variable}
 use Rattle.systems.specs.Sides.{Side, Equation}
@@ -19,12 +21,12 @@ close_number (StillLive x) = 31
 close_number (SidesDiffer i) = 32
 close_number (Fails x) = 33
 
--- the variable or the equation that it names
-abbrev pub close_detail : CloseRefusal → Option ℕ
+-- the variable or the equation that it names, if it names one
+abbrev pub close_detail : CloseRefusal → Option Detail
 close_detail SmallTable = None
-close_detail (StillLive x) = Some x
-close_detail (SidesDiffer i) = Some i
-close_detail (Fails x) = Some x
+close_detail (StillLive x) = Some (detail.Variable x)
+close_detail (SidesDiffer i) = Some (detail.Equation i)
+close_detail (Fails x) = Some (detail.Variable x)
 
 -- what a measure means: the value of each letter a to z, the empty value, the join of two values, and which variable passes on which value
 pub record Meaning (V : Type 0) : Type 0 where

@@ -1,6 +1,7 @@
 -- Closes at work: a is 0 and b is 1, X is 23 and Y is 24. Assumes nothing.
 use Rattle.std.specs.Prelude.{◌≡◌, ℕ, ◌+◌, true, List, [], ◌∷◌, map, replicate, Some, None, codes, nat_lt}
 use Rattle.model.specs.Witnesses.{Contents, spelled}
+use Rattle.systems.specs.declared.Detail.TheVariants.{Variable, Equation}
 use Rattle.systems.specs.Examples.{one, both_found, sides_differ, from_the_right}
 use Rattle.systems.specs.Runs.{Load, opened, loaded}
 use Rattle.systems.specs.Sides.{stands_in}
@@ -58,4 +59,4 @@ pub record WorkedCloses : Type 0 where
   -- found, with one rule made, and a table that has no entry for its letter
   pub entry_short : (closed any_length (one (codes "Xa") (codes "abY")) both_found 26).answer ≡ Some SmallTable
   pub numbers : map close_number (SmallTable ∷ StillLive 0 ∷ SidesDiffer 1 ∷ Fails 23 ∷ []) ≡ 30 ∷ 31 ∷ 32 ∷ 33 ∷ []
-  pub details : map close_detail (SmallTable ∷ StillLive 0 ∷ SidesDiffer 1 ∷ Fails 23 ∷ []) ≡ None ∷ Some 0 ∷ Some 1 ∷ Some 23 ∷ []
+  pub details : map close_detail (SmallTable ∷ StillLive 0 ∷ SidesDiffer 1 ∷ Fails 23 ∷ []) ≡ None ∷ Some (Variable 0) ∷ Some (Equation 1) ∷ Some (Variable 23) ∷ []

@@ -9,19 +9,21 @@ use crate::value::Capped;
 use measure::Measure;
 use measure::letter::Letter;
 use measure::variable::{VARIABLES, Variable};
+use thiserror::Error;
 
 // Where counting stops.
 const CAP: u32 = 1_000_000;
 
-// Why a length kind is not made.
-#[derive(Clone, Copy, PartialEq, Eq, Debug)]
+/// Why a length kind is not made.
+#[derive(Clone, Copy, PartialEq, Eq, Debug, Error)]
 pub enum LengthRefusal {
-    // for some variable, least is over most, or most over 1,000,000
+    /// for some variable, least is over most, or most over 1,000,000
+    #[error("for some variable the least length is over the most, or the most is over 1,000,000")]
     OutOfOrder = 82,
 }
 
 impl LengthRefusal {
-    // The number of the refusal.
+    /// The refusal's number.
     pub fn number(self) -> u8
         ensures { result ≡ length_number self }
     {

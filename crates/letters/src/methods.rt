@@ -1,4 +1,7 @@
 ghost use Rattle.std.specs.Prelude.{◌≡◌, ◌≤◌, [], ◌∷◌, reverse, length, IfOk, Some, None, MatchResult};
+ghost use Rattle.std.specs.Option.{option_map};
+ghost use Rattle.std.specs.Result.{result_err};
+ghost use Rattle.model.specs.Refusals.{rule_number};
 ghost use Rattle.model.specs.Spelling.{known as count_known, rule_of};
 ghost use Rattle.model.specs.Witnesses.{made_length, rule_refusal};
 ghost use Rattle.letters.specs.Holding.{length_of, room_for, rules_of};
@@ -121,9 +124,10 @@ impl Letters {
 
     // Makes the next letter by this rule, or says why not and changes nothing.
     pub fn add(&mut self, rule: Rule) -> Result<(), RuleRefusal>
-        ensures { MatchResult result
+        ensures outcome { MatchResult result
             (λ _. (rule_refusal (rules_of self.old) rule ≡ None) × (rules_of self.new ≡ rule ∷ rules_of self.old))
             (λ e. (rule_refusal (rules_of self.old) rule ≡ Some e) × (rules_of self.new ≡ rules_of self.old)) }
+        ensures number { option_map rule_number (result_err result) ≡ option_map rule_number (rule_refusal (rules_of self.old) rule) }
     {
         let length = self.judge(rule)?;
         self.rules.push(rule).unwrap();

@@ -12,6 +12,7 @@ use measure::letter::{LETTERS, Letter};
 use measure::sets::has;
 use measure::variable::{VARIABLES, Variable};
 use std::array;
+use thiserror::Error;
 
 // How many states there are; the first is the start.
 const STATES: usize = 8;
@@ -19,15 +20,16 @@ const STATES: usize = 8;
 // How many next states: one for each state and letter.
 const MOVES: usize = STATES * LETTERS;
 
-// Why a machine is not made.
-#[derive(Clone, Copy, PartialEq, Eq, Debug)]
+/// Why a machine is not made.
+#[derive(Clone, Copy, PartialEq, Eq, Debug, Error)]
 pub enum MachineRefusal {
-    // a next state over 7
+    /// a next state over 7
+    #[error("a next state is over 7")]
     NoState = 81,
 }
 
 impl MachineRefusal {
-    // The number of the refusal.
+    /// The refusal's number.
     pub fn number(self) -> u8
         ensures { result ≡ machine_number self }
     {

@@ -3,18 +3,21 @@
 ghost use Rattle.std.specs.Prelude.{◌≡◌, ◌^◌, ◌<◌, ◌≤◌, MatchResult};
 ghost use Rattle.measure.specs.Sets.{holds, set_number};
 
+use thiserror::Error;
+
 // The first number that is no such set, having a bit past the first 26.
 pub const SETS: u32 = 0x400_0000;
 
-// Why a number is not taken for a set.
-#[derive(Clone, Copy, PartialEq, Eq, Debug)]
+/// Why a number is not taken for a set.
+#[derive(Clone, Copy, PartialEq, Eq, Debug, Error)]
 pub enum SetRefusal {
-    // it has a bit past the first 26
+    /// it has a bit past the first 26
+    #[error("the set has a bit past the first 26")]
     Beyond26Bits = 83,
 }
 
 impl SetRefusal {
-    // The number of the refusal.
+    /// The refusal's number.
     pub fn number(self) -> u8
         ensures { result ≡ set_number self }
     {

@@ -11,13 +11,16 @@ ghost use Rattle.measure.specs.Tables.{Filled, fillable, fill_refusal, in_turn, 
 use crate::Measure;
 use crate::letter::{LETTERS, Letter};
 use model::Rule;
+use thiserror::Error;
 
-// Why a table is not filled.
-#[derive(Clone, Copy, PartialEq, Eq, Debug)]
+/// Why a table is not filled.
+#[derive(Clone, Copy, PartialEq, Eq, Debug, Error)]
 pub enum FillRefusal {
-    // it has no room for every known letter
+    /// it has no room for every known letter
+    #[error("the value table has fewer entries than there are known letters, which are 26 and one for each rule")]
     SmallTable,
-    // a rule is made of letters that are not known before it
+    /// a rule is made of letters that are not known before it
+    #[error("a rule is made of letters that are not known before it")]
     OutOfTurn,
 }
 

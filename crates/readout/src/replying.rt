@@ -7,6 +7,7 @@ ghost use Rattle.readout.specs.Replies.{Replied, named, refusal_text, refused_li
 use crate::adding::{letters_of, table_of};
 use crate::request::{Request, Stretch};
 use listing::{ReadRefusal, read};
+use model::name::capital;
 use std::alloc::{AllocError, Global};
 use witness::Witness;
 
@@ -17,11 +18,7 @@ pub type Reply = Result<Vec<u8>, Vec<u8>>;
 fn name_of(variable: u8) -> char
     ensures { result ∷ [] ≡ named variable }
 {
-    if variable < 26 {
-        char::from(b'A' + variable)
-    } else {
-        '-'
-    }
+    capital(variable).unwrap_or('-')
 }
 
 // The text of a refusal by its number, with a line and a detail.

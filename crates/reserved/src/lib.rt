@@ -6,9 +6,11 @@ ghost use Rattle.std.specs.Prelude.{◌≡◌, ◌+◌, ◌<◌, ◌≤◌, List
 
 use std::alloc::{AllocError, Global};
 use std::marker::Model;
+use thiserror::Error;
 
-// Why an item is not added: as many items are there as may be.
-#[derive(Clone, Copy, PartialEq, Eq, Debug)]
+/// Why an item is not added: as many items are there as may be.
+#[derive(Clone, Copy, PartialEq, Eq, Debug, Error)]
+#[error("the list is full")]
 pub struct Full;
 
 // At most N items, in the order in which they came.

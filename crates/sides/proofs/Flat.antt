@@ -11,6 +11,7 @@ use Rattle.systems.specs.Choices.{swap}
 use Rattle.systems.specs.Loading.{place_of, readable, at_most_one, side_of}
 use Rattle.systems.specs.Rows.{any, row, replace_pairs, replace_blocks}
 use Rattle.systems.specs.Sides.{Side, Equation, sides, on_sides, places, is_letter, is_variable, side_pairs, side_blocks, stands_in}
+use Rattle.systems.proofs.Living.{sides_on}
 use Rattle.sides.specs.declared.mark.Mark.{Mark}
 use Rattle.sides.specs.declared.mark.Mark.TheVariants.{End, At}
 use Rattle.sides.specs.Holding.{all_places}
@@ -36,10 +37,6 @@ unfolding equations_in marks_of
 holds E ms e =
     let back : equations_in ms ≡ E = ap equations_in e ∙ ap pair_up (sides_of_flat (sides E)) ∙ pair_up_sides E in
     (back, ap marks_of back ∙ sym e)
-
-sides_on : (r : Side → Side) (E : List Equation) → map r (sides E) ≡ sides (on_sides r E)
-sides_on r [] = refl
-sides_on r (e ∷ E) = ap (λ t. r e.0 ∷ (r e.1 ∷ t)) (sides_on r E)
 
 -- a pass over the marks that stops at each end
 module _ (r : Side → Side) (R : List Mark → List Mark) (none : R [] ≡ []) (step : (s : Side) (ms : List Mark) → R (map At s ++ (End ∷ ms)) ≡ map At (r s) ++ (End ∷ R ms)) where

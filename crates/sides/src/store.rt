@@ -52,6 +52,14 @@ impl Sides {
         })
     }
 
+    /// Forgets all equations.
+    pub fn clear(&mut self)
+        ensures { self.new ≡ [] }
+    {
+        self.marks.clear();
+        self.number = 0;
+    }
+
     // The same sides, in memory of their own. (Not Clone, whose method is handed no heap.)
     pub fn try_clone(&self, heap: Global) -> Result<Sides, AllocError>
         ensures { IfOk result (λ s. s ≡ self.now) }

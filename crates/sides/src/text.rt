@@ -9,9 +9,9 @@ use systems::Place;
 fn read(b: u8) -> Option<Place>
     ensures { result ≡ place_of b }
 {
-    match b {
-        b'a'..=b'z' => Some(Place::Letter(u16::from(b - b'a'))),
-        b'A'..=b'Z' => Some(Place::Variable(b - b'A')),
+    match char::from(b) {
+        'a'..='z' => Some(Place::Letter(u16::from(b - b'a'))),
+        'A'..='Z' => Some(Place::Variable(b - b'A')),
         _ => None,
     }
 }

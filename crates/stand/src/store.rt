@@ -3,7 +3,7 @@ ghost use Rattle.std.specs.Option.{option_map};
 ghost use Rattle.std.specs.Result.{result_err};
 ghost use Rattle.model.specs.Witnesses.{rule_refusal, rules_fit};
 ghost use Rattle.systems.specs.Loading.{after_load, load_refusal};
-ghost use Rattle.systems.specs.Refusals.{after_choice, choice_number, choice_refusal, load_number, of_rule};
+ghost use Rattle.systems.specs.Refusals.{after_choice, choice_detail, choice_number, choice_refusal, load_number, of_rule};
 ghost use Rattle.systems.specs.Standings.{fresh, new as nothing_loaded};
 ghost use Rattle.stand.specs.Popping.{RefusesBeforePlaces, joining, popping, with_rule};
 
@@ -45,6 +45,15 @@ impl Stand {
             letters: Letters::new(heap)?,
             pops: Reserved::new(heap)?,
         })
+    }
+
+    /// Forgets all equations, rules and pops.
+    pub fn clear(&mut self)
+        ensures { self.new ≡ nothing_loaded }
+    {
+        self.sides.clear();
+        self.letters.clear();
+        self.pops.clear();
     }
 
     // The sides.
@@ -149,6 +158,7 @@ impl Stand {
     pub fn choose(&mut self, choice: Choice) -> Result<(), ChoiceRefusal>
         ensures refusal { result_err result ≡ choice_refusal self.old choice }
         ensures number { option_map choice_number (result_err result) ≡ option_map choice_number (choice_refusal self.old choice) }
+        ensures detail { option_map choice_detail (result_err result) ≡ option_map choice_detail (choice_refusal self.old choice) }
         ensures stands { self.new ≡ after_choice self.old choice }
     {
         match choice {

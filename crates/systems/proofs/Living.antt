@@ -15,6 +15,25 @@ use Rattle.systems.proofs.Rows.{joined_same, all_joined, all_each, any_none, non
 
 -- each side in turn
 
+pub sides_on : (f : Side → Side) (E : List Equation) → map f (sides E) ≡ sides (on_sides f E)
+sides_on f [] = refl
+sides_on f (e ∷ E) = ap (λ ss. f e.0 ∷ (f e.1 ∷ ss)) (sides_on f E)
+
+both : (l m r s : Side) → l ≡ m → r ≡ s → ◌≡◌ {A = Equation} (l, r) (m, s)
+both l m r s e f = ap₂ (λ (u v : Side). (u, v)) e f
+
+pub on_sides_on : (f g h : Side → Side) → ((s : Side) → f (g s) ≡ h s) → (E : List Equation) → on_sides f (on_sides g E) ≡ on_sides h E
+on_sides_on f g h same [] = refl
+on_sides_on f g h same (e ∷ E) = ap₂ (λ u v. u ∷ v) (both (f (g e.0)) (h e.0) (f (g e.1)) (h e.1) (same e.0) (same e.1)) (on_sides_on f g h same E)
+
+pub on_sides_same : (f g : Side → Side) (E : List Equation) → AllByRecursion (λ s. f s ≡ g s) (sides E) → on_sides f E ≡ on_sides g E
+on_sides_same f g [] h = refl
+on_sides_same f g (e ∷ E) h = ap₂ (λ u v. u ∷ v) (both (f e.0) (g e.0) (f e.1) (g e.1) h.0 h.1.0) (on_sides_same f g E h.1.1)
+
+pub on_sides_self : (f : Side → Side) → ((s : Side) → f s ≡ s) → (E : List Equation) → on_sides f E ≡ E
+on_sides_self f same [] = refl
+on_sides_self f same (e ∷ E) = ap₂ (λ u v. u ∷ v) (both (f e.0) e.0 (f e.1) e.1 (same e.0) (same e.1)) (on_sides_self f same E)
+
 pub all_sides : (P Q : Side → Type 0) (f : Side → Side) → ((s : Side) → P s → Q (f s)) → (E : List Equation) → AllByRecursion P (sides E) → AllByRecursion Q (sides (on_sides f E))
 all_sides P Q f step [] h = tt
 all_sides P Q f step (e ∷ E) h = (step e.0 h.0, (step e.1 h.1.0, all_sides P Q f step E h.1.1))

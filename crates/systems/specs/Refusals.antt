@@ -9,6 +9,8 @@ use Rattle.systems.specs.declared.Choice.TheVariants.{Left, Right, Erase, Pair, 
 use Rattle.systems.specs.declared.LoadRefusal.{LoadRefusal}
 use Rattle.systems.specs.declared.ChoiceRefusal.{ChoiceRefusal}
 use Rattle.systems.specs.declared.ChoiceRefusal.TheVariants.{NotLive, UnknownLetter, EqualLetters, CountOutOfRange, TooManyRules, TooManyPops, TooManyPlaces, TooLong}
+use Rattle.systems.specs.declared.Detail.{Detail}
+use Rattle.systems.specs.declared.Detail.TheVariants.{Variable}
 use Rattle.systems.specs.Choices.{taken}
 use Rattle.systems.specs.Sides.{places}
 use Rattle.systems.specs.Standings.{Standing, fresh, live}
@@ -31,9 +33,9 @@ choice_number TooManyRules = 22
 choice_number TooManyPops = 23
 choice_number TooLong = 24
 
--- the variable that the refusal names
-abbrev pub choice_detail : ChoiceRefusal → Option ℕ
-choice_detail (NotLive x) = Some x
+-- the variable that the refusal names, if it names one
+abbrev pub choice_detail : ChoiceRefusal → Option Detail
+choice_detail (NotLive x) = Some (Variable x)
 choice_detail UnknownLetter = None
 choice_detail EqualLetters = None
 choice_detail CountOutOfRange = None

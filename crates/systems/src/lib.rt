@@ -8,6 +8,8 @@ ghost use Rattle.systems.specs.Refusals.{choice_detail, choice_number, load_numb
 ghost use Rattle.systems.specs.Theorems.{CallsDecideWhatStands, Complete, CrossingIsAnOccurrence, ReplacingIsExact, RunsAreWellFormed, Sound, SoundAtEnd, ValuesFollowSpelling};
 
 use model::RuleRefusal;
+use model::name::VariableName;
+use thiserror::Error;
 
 // A place of a side: a letter, where 0 to 25 are a to z and the letters made later follow; or a variable, from A as 0.
 #[derive(Clone, Copy, PartialEq, Eq, Debug)]
@@ -38,19 +40,22 @@ pub enum Pop {
     AtRight(u8, u16),
 }
 
-// Why an equation is not loaded, each reason by its number.
-#[derive(Clone, Copy, PartialEq, Eq, Debug)]
+/// Why an equation is not loaded, each reason by its number.
+#[derive(Clone, Copy, PartialEq, Eq, Debug, Error)]
 pub enum LoadRefusal {
-    // a byte that is none of a to z and A to Z
+    /// a byte that is none of a to z and A to Z
+    #[error("a side has a byte that is none of a to z and A to Z")]
     NoLetter = 1,
-    // 32 equations are there
+    /// 32 equations are there
+    #[error("32 equations are loaded, and there is room for no more")]
     TooManyEquations = 2,
-    // all sides together would have more than 1,024 places
+    /// all sides together would have more than 1,024 places
+    #[error("all sides together would have more than 1,024 places")]
     TooManyPlaces = 3,
 }
 
 impl LoadRefusal {
-    // The refusal's number.
+    /// The refusal's number.
     pub fn number(self) -> u8
         ensures { result ≡ load_number self }
     {
@@ -58,29 +63,47 @@ impl LoadRefusal {
     }
 }
 
-// Why a choice is not taken.
+/// What a refusal names.
 #[derive(Clone, Copy, PartialEq, Eq, Debug)]
+pub enum Detail {
+    /// a variable, from A as 0
+    Variable(u8),
+    /// an equation by its number, from 1
+    Equation(u8),
+}
+
+/// Why a choice is not taken.
+#[derive(Clone, Copy, PartialEq, Eq, Debug, Error)]
 pub enum ChoiceRefusal {
-    // this variable stands in no equation
+    /// this variable stands in no equation
+    #[error("variable {} stands in no equation", VariableName(*.0))]
     NotLive(u8),
-    // a letter that is neither of a to z nor made before
+    /// a letter that is neither of a to z nor made before
+    #[error("a letter of the choice is neither one of a to z nor made by a choice before")]
     UnknownLetter,
-    // a pair of one letter and itself
+    /// a pair of one letter and itself
+    #[error("the two letters of a pair are the same")]
     EqualLetters,
-    // a block of fewer than 2 or more than 1,000,000
+    /// a block of fewer than 2 or more than 1,000,000
+    #[error("the count of a block is not from 2 to 1,000,000")]
     CountOutOfRange,
-    // 512 rules are made
+    /// 512 rules are made
+    #[error("512 rules are made, and there is room for no more")]
     TooManyRules,
-    // 1,024 letters are popped
+    /// 1,024 letters are popped
+    #[error("1,024 letters are popped, and there is room for no more")]
     TooManyPops,
-    // all sides together would have more than 2,048 places
+    /// all sides together would have more than 2,048 places
+    #[error("all sides together would have more than 2,048 places")]
     TooManyPlaces,
-    // the new letter would spell more than 1,000,000,000,000 letters
+    /// the new letter would spell more than 1,000,000,000,000 letters
+    #[error("the new letter would spell more than 1,000,000,000,000 letters")]
     TooLong,
 }
 
 impl ChoiceRefusal {
-    // The refusal's number. (A match, since an enum with a field in a case has no numbers to cast.)
+    /// The refusal's number.
+    // A match, since an enum with a field in a case has no numbers to cast.
     pub fn number(self) -> u8
         ensures { result ≡ choice_number self }
     {
@@ -96,12 +119,12 @@ impl ChoiceRefusal {
         }
     }
 
-    // The variable that the refusal names.
-    pub fn detail(self) -> Option<u8>
+    /// The variable that the refusal names, if it names one.
+    pub fn detail(self) -> Option<Detail>
         ensures { result ≡ choice_detail self }
     {
         match self {
-            ChoiceRefusal::NotLive(x) => Some(x),
+            ChoiceRefusal::NotLive(x) => Some(Detail::Variable(x)),
             ChoiceRefusal::UnknownLetter
             | ChoiceRefusal::EqualLetters
             | ChoiceRefusal::CountOutOfRange

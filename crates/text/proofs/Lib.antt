@@ -2,3 +2,4 @@ pub mod Cuts
 pub mod Names
 pub mod Numbers
 pub mod Parts
+pub mod Tokens

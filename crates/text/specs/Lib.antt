@@ -1,5 +1,6 @@
 pub mod Pieces
 pub mod Names
 pub mod Digits
+pub mod Parts
 pub mod Reading
 pub mod Tokens

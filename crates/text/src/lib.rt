@@ -2,23 +2,17 @@
 
 #![tactic(auto)]
 
+mod part;
+
 ghost use Rattle.std.specs.Prelude.{◌≡◌, ◌+◌, ◌^◌, true, [], ◌∷◌, ◌++◌, decimal, MatchOption};
 ghost use Rattle.text.specs.Digits.{Shaped, value_on};
 ghost use Rattle.text.specs.Names.{letter_name, variable_name};
 ghost use Rattle.text.specs.Pieces.{free};
 ghost use Rattle.text.specs.Reading.{Below, Reads};
+ghost use Rattle.text.specs.Parts.{Cuts};
 ghost use Rattle.text.specs.Tokens.{Holds};
 
-// A field by how it begins, holding its part of the input.
-#[derive(Clone, Copy, Debug)]
-pub enum Token<'a> {
-    // any other field
-    Word(&'a [u8]),
-    // a field that begins with a digit
-    Number(&'a [u8]),
-    // what follows a #
-    LetterName(&'a [u8]),
-}
+pub use part::{Part, Token};
 
 // What stands before the first `end` and after it, if there is one.
 pub fn take_field(line: &[u8], end: u8) -> Option<(&[u8], &[u8])>
@@ -30,12 +24,46 @@ pub fn take_field(line: &[u8], end: u8) -> Option<(&[u8], &[u8])>
     Some((&line[..at], &line[at + 1..]))
 }
 
-// The token that a field is.
-pub fn token_of(field: &[u8]) -> Token<'_>
-    ensures { Holds result field.now }
+impl<'a> Part<'a> {
+    /// The whole of a line, at the place 0.
+    pub fn whole(line: &'a [u8]) -> Part<'a>
+        ensures bytes { result.bytes.now ≡ line.now }
+        ensures place { result.place ≡ 0 }
+    {
+        Part {
+            bytes: line,
+            place: 0,
+        }
+    }
+
+    /// One field off a line: what stands before the first `end`, and what stands behind it, if there is one. Both have their places in the line.
+    pub fn take_field(self, end: u8) -> Option<(Part<'a>, Part<'a>)>
+        ensures { MatchOption result (free end self.entry.bytes.now ≡ true) (Cuts end self.entry) }
+    {
+        let (field, rest) = take_field(self.bytes, end)?;
+        let behind = self.place + field.len() + 1;
+        Some((
+            Part {
+                bytes: field,
+                place: self.place,
+            },
+            Part {
+                bytes: rest,
+                place: behind,
+            },
+        ))
+    }
+}
+
+/// The token that a field is.
+pub fn token_of(field: Part<'_>) -> Token<'_>
+    ensures { Holds result field.entry }
 {
-    match field {
-        [b'#', digits @ ..] => Token::LetterName(digits),
+    match field.bytes {
+        [b'#', digits @ ..] => Token::LetterName(Part {
+            bytes: digits,
+            place: field.place + 1,
+        }),
         [b'0'..=b'9', ..] => Token::Number(field),
         _ => Token::Word(field),
     }
@@ -63,8 +91,8 @@ fn value_of(digits: &[u8]) -> Option<u64>
 pub fn number(field: &[u8]) -> Option<u64>
     ensures { Reads (Below (10 ^ 16)) decimal field.now result }
 {
-    match token_of(field) {
-        Token::Number(digits) => value_of(digits),
+    match token_of(Part::whole(field)) {
+        Token::Number(digits) => value_of(digits.bytes),
         _ => None,
     }
 }
@@ -98,9 +126,9 @@ fn made(digits: &[u8]) -> Option<u16>
 pub fn letter(field: &[u8]) -> Option<u16>
     ensures { Reads (Below 538) letter_name field.now result }
 {
-    match token_of(field) {
-        Token::LetterName(digits) => made(digits),
-        Token::Word(name) => basic(name),
+    match token_of(Part::whole(field)) {
+        Token::LetterName(digits) => made(digits.bytes),
+        Token::Word(name) => basic(name.bytes),
         Token::Number(_) => None,
     }
 }

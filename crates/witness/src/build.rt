@@ -1,4 +1,7 @@
 ghost use Rattle.std.specs.Prelude.{◌≡◌, IfOk, Some, None, MatchResult};
+ghost use Rattle.std.specs.Option.{option_map};
+ghost use Rattle.std.specs.Result.{result_err};
+ghost use Rattle.model.specs.Refusals.{rule_number};
 ghost use Rattle.model.specs.Witnesses.{least, rule_refusal};
 ghost use Rattle.witness.specs.Answers.{letter_refusal, with_letter, with_rule, with_word, word_refusal};
 ghost use Rattle.witness.specs.Holding.{contents_of, nothing};
@@ -41,9 +44,10 @@ impl Witness {
 
     // Adds a rule, which makes the next letter.
     pub fn add_rule(&mut self, rule: Rule) -> Result<(), RuleRefusal>
-        ensures { MatchResult result
+        ensures outcome { MatchResult result
             (λ _. (rule_refusal (contents_of self.old).rules rule ≡ None) × (contents_of self.new ≡ with_rule rule (contents_of self.old)))
             (λ e. (rule_refusal (contents_of self.old).rules rule ≡ Some e) × (contents_of self.new ≡ contents_of self.old)) }
+        ensures number { option_map rule_number (result_err result) ≡ option_map rule_number (rule_refusal (contents_of self.old).rules rule) }
     {
         self.made.add(rule)
     }

@@ -2,24 +2,30 @@ ghost use Rattle.std.specs.Prelude.{◌≡◌};
 ghost use Rattle.witness.specs.declared.refusals.LetterRefusal.TheVariants.{TooManyLetters};
 
 use reserved::Full;
+use thiserror::Error;
 
-// Why a word may not be started.
-#[derive(Clone, Copy, PartialEq, Eq, Debug)]
+/// Why a word may not be started.
+#[derive(Clone, Copy, PartialEq, Eq, Debug, Error)]
 pub enum WordRefusal {
-    // a number over 25
+    /// a number over 25
+    #[error("the number of the variable is over 25")]
     NoSuchVariable,
-    // not above the variable of the word before
+    /// not above the variable of the word before
+    #[error("the variable is not above the variable of the word before")]
     NotRising,
 }
 
-// Why a letter may not be added to the newest word.
-#[derive(Clone, Copy, PartialEq, Eq, Debug)]
+/// Why a letter may not be added to the newest word.
+#[derive(Clone, Copy, PartialEq, Eq, Debug, Error)]
 pub enum LetterRefusal {
-    // no word is started
+    /// no word is started
+    #[error("no word is started")]
     NoWord,
-    // neither of a to z nor made by a rule
+    /// neither of a to z nor made by a rule
+    #[error("the letter is neither one of a to z nor made by a rule")]
     UnknownLetter,
-    // all words together have 1,024 letters
+    /// all words together have 1,024 letters
+    #[error("all words together have 1,024 letters, and there is room for no more")]
     TooManyLetters,
 }
 
@@ -32,11 +38,13 @@ impl From<Full> for LetterRefusal {
     }
 }
 
-// Why a witness does not answer, each reason by its number.
-#[derive(Clone, Copy, PartialEq, Eq, Debug)]
+/// Why a witness does not answer, each reason by its number.
+#[derive(Clone, Copy, PartialEq, Eq, Debug, Error)]
 pub enum WitnessRefusal {
-    // the variable has no word
+    /// the variable has no word
+    #[error("the variable has no word in the witness")]
     Absent = 61,
-    // the place, or the stretch, lies past the word
+    /// the place, or the stretch, lies past the word
+    #[error("the place or the stretch lies past the end of the word")]
     PastWord = 62,
 }

@@ -11,7 +11,7 @@ use Rattle.systems.specs.Choices.{swapped, swap}
 use Rattle.systems.specs.Rows.{any}
 use Rattle.systems.specs.Sides.{Side, Equation, sides, on_sides, places, is_variable, stands_in, Words, filled, fill, Solves, SameSides}
 use Rattle.systems.specs.Standings.{Standing, live}
-use Rattle.systems.proofs.Living.{each_stands}
+use Rattle.systems.proofs.Living.{each_stands, on_sides_on, on_sides_same, on_sides_self}
 use Rattle.systems.proofs.Rows.{all_each, joined_joined, joined_same}
 use Rattle.writing.specs.declared.Span.{Span}
 use Rattle.writing.specs.declared.WriteRefusal.TheVariants.{NoWord, TooManyLetters, NoSolution}
@@ -20,23 +20,6 @@ use Rattle.writing.specs.Refusals.{span_of, is_word, given, solved, write_refusa
 use Rattle.writing.specs.Writer.{beside, from, letters, variables}
 use Rattle.writing.proofs.Falls.{all_variables, in_variables}
 use Rattle.writing.proofs.Refusing.{is_solved, solved_means}
-
--- both sides of each equation
-
-both : (l m r s : Side) → l ≡ m → r ≡ s → ◌≡◌ {A = Equation} (l, r) (m, s)
-both l m r s e f = ap₂ (λ (u v : Side). (u, v)) e f
-
-on_sides_on : (f g h : Side → Side) → ((s : Side) → f (g s) ≡ h s) → (F : List Equation) → on_sides f (on_sides g F) ≡ on_sides h F
-on_sides_on f g h same [] = refl
-on_sides_on f g h same (e ∷ F) = ap₂ (λ u v. u ∷ v) (both (f (g e.0)) (h e.0) (f (g e.1)) (h e.1) (same e.0) (same e.1)) (on_sides_on f g h same F)
-
-on_sides_same : (f g : Side → Side) (F : List Equation) → AllByRecursion (λ s. f s ≡ g s) (sides F) → on_sides f F ≡ on_sides g F
-on_sides_same f g [] h = refl
-on_sides_same f g (e ∷ F) h = ap₂ (λ u v. u ∷ v) (both (f e.0) (g e.0) (f e.1) (g e.1) h.0 h.1.0) (on_sides_same f g F h.1.1)
-
-on_sides_self : (f : Side → Side) → ((s : Side) → f s ≡ s) → (F : List Equation) → on_sides f F ≡ F
-on_sides_self f same [] = refl
-on_sides_self f same (e ∷ F) = ap₂ (λ u v. u ∷ v) (both (f e.0) e.0 (f e.1) e.1 (same e.0) (same e.1)) (on_sides_self f same F)
 
 -- a number below k is below the next, and no other number is but k
 pub below_other : (y k : ℕ) → y ≢ k → ltb y k ≡ ltb y (k + 1)

@@ -7,21 +7,27 @@ ghost use Rattle.writing.specs.Refusals.{write_number};
 ghost use Rattle.writing.specs.Theorems.{Writable, WriterRefusesRightly};
 ghost use Rattle.writing.specs.Worked.{WorkedLists};
 
-// Why no list is written, each reason by its number.
-#[derive(Clone, Copy, PartialEq, Eq, Debug)]
+use thiserror::Error;
+
+/// Why no list is written, each reason by its number.
+#[derive(Clone, Copy, PartialEq, Eq, Debug, Error)]
 pub enum WriteRefusal {
-    // the caller's list has room for fewer than 1,050 choices
+    /// the caller's list has room for fewer than 1,050 choices
+    #[error("the list has room for fewer than 1,050 choices")]
     ShortList = 51,
-    // the word of a variable of the system lies outside the buffer, or has a byte that is none of a to z
+    /// the word of a variable of the system lies outside the buffer, or has a byte that is none of a to z
+    #[error("the word of a variable of the system lies outside the buffer, or has a byte that is none of a to z")]
     NoWord = 52,
-    // the filled-in sides hold more than 512 letters
+    /// the filled-in sides hold more than 512 letters
+    #[error("all sides together, filled with the words, would have more than 512 letters")]
     TooManyLetters = 53,
-    // the words do not solve every equation
+    /// the words do not solve every equation
+    #[error("the words do not solve every equation")]
     NoSolution = 54,
 }
 
 impl WriteRefusal {
-    // The refusal's number.
+    /// The refusal's number.
     pub fn number(self) -> u8
         ensures { result ≡ write_number self }
     {

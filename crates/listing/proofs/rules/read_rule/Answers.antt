@@ -20,4 +20,4 @@ returns c =
     let d = contents_of c.args.witness.now in
     let is : c.in_ok-made.made ≡ known d.rules = omega (arith, c.from.ensures, c.if-from-rules.false, length-reverse c.rules.result.now, ap length c.rules.ensures) in
     let reads = reads_and (Within 538 (2 ^ 32)) rule_text c.args.line.now (Some (c.in_ok-made.made, c.in_ok-made.rule)) c.in_ok-made.ensures in
-    rw c.ok.ensures.value (adds d (contents_of c.add_rule.new.self) c.args.line.now (c.in_ok-made.made, c.in_ok-made.rule) c.add_rule.result reads is c.add_rule.ensures)
+    rw c.ok.ensures.value (adds d (contents_of c.add_rule.new.self) c.args.line.now (c.in_ok-made.made, c.in_ok-made.rule) c.add_rule.result reads is c.add_rule.ensures.outcome)

@@ -12,12 +12,12 @@ loop-rule-init c = c.requires
 pub unwrap-requires : goal.unwrap-requires
 unwrap-requires c =
     let kept = c.rules-rule-items in
-    ok_taken c.add_rule.result _ _ _ (rule_free kept.result.now c.loop-rule.rule-index (Pair 0 0) (contents_of c.loop-rule.witness) c.loop-rule-test.true (ap rules_fit kept.ensures.value ∙ kept.ensures.fit) c.loop-rule.invariant) c.add_rule.ensures
+    ok_taken c.add_rule.result _ _ _ (rule_free kept.result.now c.loop-rule.rule-index (Pair 0 0) (contents_of c.loop-rule.witness) c.loop-rule-test.true (ap rules_fit kept.ensures.value ∙ kept.ensures.fit) c.loop-rule.invariant) c.add_rule.ensures.outcome
 
 pub loop-rule-preserved : goal.loop-rule-preserved
 loop-rule-preserved c =
     let kept = c.rules-rule-items in
-    rule_turn kept.result.now c.loop-rule.rule-index (Pair 0 0) (contents_of c.loop-rule.witness) (contents_of c.add_rule.new.self) c.add_rule.result c.loop-rule-test.true (ap rules_fit kept.ensures.value ∙ kept.ensures.fit) c.loop-rule.invariant c.add_rule.ensures
+    rule_turn kept.result.now c.loop-rule.rule-index (Pair 0 0) (contents_of c.loop-rule.witness) (contents_of c.add_rule.new.self) c.add_rule.result c.loop-rule-test.true (ap rules_fit kept.ensures.value ∙ kept.ensures.fit) c.loop-rule.invariant c.add_rule.ensures.outcome
 
 pub returns : goal.returns
 returns c =

@@ -24,6 +24,6 @@ invariant_of-self c =
     record {
       level = s.level;
       whole = s.whole;
-      fit = still_fits (rules_of s.made) (rules_of c.add.new.self) c.args.rule (entries (reverse s.seats) s.letters) c.add.result c.add.ensures s.fit;
-      counted = still_counted (rules_of s.made) (rules_of c.add.new.self) c.args.rule s.letters s.ends c.add.result c.add.ensures low s.counted;
+      fit = still_fits (rules_of s.made) (rules_of c.add.new.self) c.args.rule (entries (reverse s.seats) s.letters) c.add.result c.add.ensures.outcome s.fit;
+      counted = still_counted (rules_of s.made) (rules_of c.add.new.self) c.args.rule s.letters s.ends c.add.result c.add.ensures.outcome low s.counted;
     }

@@ -1,0 +1,7 @@
+use Rattle.std.proofs.Common.{[]}
+use Rattle.checker.proofs.store.Check.cleared.Goals as goal
+
+pub invariant_of-result : goal.invariant_of-result
+invariant_of-result c = record {
+  run = ∣ ([], c.clear.ensures) ∣₁;
+}

@@ -1,0 +1,9 @@
+pub mod Fields
+pub mod Lines
+pub mod Names
+pub mod Numbers
+pub mod Reading
+pub mod Rows
+pub mod Stepping
+pub mod Verbs
+pub mod Written
