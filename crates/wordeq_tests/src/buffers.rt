@@ -24,11 +24,8 @@ fn written(heap: Global, runner: &mut Runner, room: usize) -> Result<(), Fail> {
         .run(WORKED, out.as_mut_slice())
         .map_err(|_| "a listing is refused")?;
     match out.as_slice().split_at_checked(length) {
-        Some((text, rest))
-            if text == WORKED_LISTING && rest.iter().all(|byte| *byte == FILLING) =>
-        {
-            Ok(())
-        }
+        Some((text, rest)) if text == WORKED_LISTING && rest.iter().all(|byte| *byte == FILLING) =>
+            { Ok(()) }
         _ => Err(Fail::new("another text is written")),
     }
 }

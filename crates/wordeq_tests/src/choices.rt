@@ -3,7 +3,7 @@ use crate::tools::{CHOICES, refused_behind};
 use std::test::Fail;
 
 // Lines with a wrong number of fields, or one that is unreadable.
-static FIELDS: [(&[u8], &[u8]); 38] = [
+static FIELDS: [(&[u8], &[u8]); 40] = [
     (b"erase X\n", b"42 7 -"),
     (b"erase X - -\n", b"42 7 -"),
     (b"erase X - \n", b"42 7 -"),
@@ -18,12 +18,14 @@ static FIELDS: [(&[u8], &[u8]); 38] = [
     (b" \n", b"42 7 -"),
     (b"   \n", b"42 7 -"),
     (b"pair A\n", b"42 7 -"),
+    (b"pair a", b"42 7 -"),
     (b"  \n", b"43 7 -"),
     (b" X -\n", b"43 7 -"),
     (b"erase  -\n", b"43 7 -"),
     (b"erase X \n", b"43 7 -"),
     (b"pair a \n", b"43 7 -"),
     (b"pair  b\n", b"43 7 -"),
+    (b"pair a ", b"43 7 -"),
     (b"pair a b\r\n", b"43 7 -"),
     // no choice of this name
     (b"Erase X -\n", b"43 7 -"),
@@ -119,7 +121,7 @@ fn counts_of_blocks(rt: HostRuntime) -> Result<(), Fail> {
 }
 
 // Choices that are readable, each with the first reason why it is refused, or with X live at the end.
-static REASONS: [(&[u8], &[u8]); 33] = [
+static REASONS: [(&[u8], &[u8]); 34] = [
     (b"left Q a\n", b"11 7 Q"),
     (b"right Q a\n", b"11 7 Q"),
     (b"erase Q -\n", b"11 7 Q"),
@@ -146,15 +148,28 @@ static REASONS: [(&[u8], &[u8]); 33] = [
     (b"left X z\n", b"31 0 X"),
     // equal letters
     (b"pair a a\n", b"13 7 -"),
+    (b"pair a a", b"13 7 -"),
     (b"pair z z\n", b"13 7 -"),
     (b"pair a b\npair #26 #26\n", b"13 8 -"),
     (b"pair b a\n", b"31 0 X"),
     // ten to the twelfth letters, and one more
     (b"block a 1000000\nblock #26 1000000\n", b"31 0 X"),
-    (b"block a 1000000\nblock #26 1000000\npair #27 a\n", b"24 9 -"),
-    (b"block a 1000000\nblock #26 1000000\npair a #27\n", b"24 9 -"),
-    (b"block a 1000000\nblock #26 1000000\nblock #27 2\n", b"24 9 -"),
-    (b"block a 1000000\nblock #26 999999\npair #26 #27\n", b"31 0 X"),
+    (
+        b"block a 1000000\nblock #26 1000000\npair #27 a\n",
+        b"24 9 -",
+    ),
+    (
+        b"block a 1000000\nblock #26 1000000\npair a #27\n",
+        b"24 9 -",
+    ),
+    (
+        b"block a 1000000\nblock #26 1000000\nblock #27 2\n",
+        b"24 9 -",
+    ),
+    (
+        b"block a 1000000\nblock #26 999999\npair #26 #27\n",
+        b"31 0 X",
+    ),
     // a refused line hides what follows
     (b"pair a a\npair a\n", b"13 7 -"),
     (b"pair a a\n\n", b"13 7 -"),

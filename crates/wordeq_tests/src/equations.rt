@@ -3,7 +3,7 @@ use crate::tools::{EQUATIONS, refused_behind};
 use std::test::Fail;
 
 // Lines with a wrong number of fields, or an empty one.
-static FIELDS: [(&[u8], &[u8]); 24] = [
+static FIELDS: [(&[u8], &[u8]); 26] = [
     // one field, three, more
     (b"a\n", b"42 2 -"),
     (b"Xa,abY\n", b"42 2 -"),
@@ -32,6 +32,9 @@ static FIELDS: [(&[u8], &[u8]); 24] = [
     (b"a a\na\n", b"42 3 -"),
     (b"a a\na \n", b"43 3 -"),
     (b"a a\n\r\n", b"42 3 -"),
+    // without a newline
+    (b"a", b"42 2 -"),
+    (b"a a\na ", b"43 3 -"),
 ];
 
 #[test]
@@ -40,7 +43,7 @@ fn two_fields_that_are_not_empty(rt: HostRuntime) -> Result<(), Fail> {
 }
 
 // Sides with a byte that is no letter and no variable, and some that are taken.
-static SIDES: [(&[u8], &[u8]); 26] = [
+static SIDES: [(&[u8], &[u8]); 27] = [
     (b"Xa abY\r\n", b"1 2 -"),
     (b"Xa\r abY\n", b"1 2 -"),
     (b"X\ta abY\n", b"1 2 -"),
@@ -67,6 +70,7 @@ static SIDES: [(&[u8], &[u8]); 26] = [
     (b"- a\n", b"41 3 -"),
     (b"a -\n", b"41 3 -"),
     // a refused load hides that the second table is missing or unreadable
+    (b"a 1", b"1 2 -"),
     (b"a 1\n\n", b"1 2 -"),
     (b"a 1\n\nX 2 2\n", b"1 2 -"),
 ];

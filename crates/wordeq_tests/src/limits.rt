@@ -3,7 +3,7 @@ use crate::tools::{LIMITS, refused_behind};
 use std::test::Fail;
 
 // Lines with a wrong number of fields, an unreadable one, or a variable that is listed already.
-static FIELDS: [(&[u8], &[u8]); 29] = [
+static FIELDS: [(&[u8], &[u8]); 30] = [
     (b"X\n", b"42 5 -"),
     (b"X 2\n", b"42 5 -"),
     (b"X 2 2 2\n", b"42 5 -"),
@@ -16,6 +16,7 @@ static FIELDS: [(&[u8], &[u8]); 29] = [
     (b"\r\n", b"42 5 -"),
     (b"x 2\n", b"42 5 -"),
     (b"X 2 2\nX 2\n", b"42 6 -"),
+    (b"X 2", b"42 5 -"),
     (b"  \n", b"43 5 -"),
     (b" 2 2\n", b"43 5 -"),
     (b"X  2\n", b"43 5 -"),

@@ -35,7 +35,13 @@ fn equation(heap: Global, byte: u8, left: usize, right: usize) -> Result<Vec<u8>
     let right = vec![in heap; byte; right]?;
     joined(
         heap,
-        &[b"left right\n", left.as_slice(), b" ", right.as_slice(), b"\n"],
+        &[
+            b"left right\n",
+            left.as_slice(),
+            b" ",
+            right.as_slice(),
+            b"\n",
+        ],
     )
 }
 

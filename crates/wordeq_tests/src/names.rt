@@ -2,9 +2,8 @@
 use crate::tools::{CHOICES, EQUATIONS, NO_EQUATION, refused_behind};
 use std::test::Fail;
 
-// Texts with another first line.
-static FIRST: [(&[u8], &[u8]); 20] = [
-    // (no text), and texts whose first line is another
+// Texts with another first line, or with no other line.
+static FIRST: [(&[u8], &[u8]); 22] = [
     (b"", b"41 1 -"),
     (b"\n", b"41 1 -"),
     (b"\n\n", b"41 1 -"),
@@ -14,7 +13,10 @@ static FIRST: [(&[u8], &[u8]); 20] = [
     (b"left  right\n", b"41 1 -"),
     (b"left\tright\n", b"41 1 -"),
     (b"left right\r\n", b"41 1 -"),
-    (b"left right\r\n\r\nvariable least most\r\n\r\ndo name with\r\n", b"41 1 -"),
+    (
+        b"left right\r\n\r\nvariable least most\r\n\r\ndo name with\r\n",
+        b"41 1 -",
+    ),
     (b"left right\0\n", b"41 1 -"),
     (b"\xef\xbb\xbfleft right\n", b"41 1 -"),
     (b"Left right\n", b"41 1 -"),
@@ -25,6 +27,9 @@ static FIRST: [(&[u8], &[u8]); 20] = [
     (b"variable least most\n", b"41 1 -"),
     (b"do name with\n", b"41 1 -"),
     (b"\xff", b"41 1 -"),
+    // the line after the last, with and without a newline before it
+    (b"left right", b"41 2 -"),
+    (b"left right\n", b"41 2 -"),
 ];
 
 #[test]
@@ -33,9 +38,8 @@ fn the_first_line_of_names(rt: HostRuntime) -> Result<(), Fail> {
 }
 
 // What follows the first line, where the second table is missing or begins otherwise.
-static SECOND: [(&[u8], &[u8]); 20] = [
+static SECOND: [(&[u8], &[u8]); 21] = [
     // the text stops before the second table, with and without its last newline
-    (b"", b"41 2 -"),
     (b"\n", b"41 3 -"),
     (b"a a", b"41 3 -"),
     (b"a a\n", b"41 3 -"),
@@ -53,6 +57,9 @@ static SECOND: [(&[u8], &[u8]); 20] = [
     (b"\nvariable least most\r\n", b"41 3 -"),
     (b"\nvariable most least\n", b"41 3 -"),
     (b"\nvariable least\n", b"41 3 -"),
+    // the third table is missing
+    (b"\nvariable least most", b"41 4 -"),
+    (b"a a\n\nvariable least most", b"41 5 -"),
     // a line of names again is an equation
     (b"left right", b"41 3 -"),
     (b"left right\n\n", b"41 4 -"),

@@ -18,13 +18,13 @@ pub(crate) const EQUATIONS: &[u8] = b"left right\n";
 
 pub(crate) const LIMITS: &[u8] = b"left right\nXa abY\n\nvariable least most\n";
 
-pub(crate) const CHOICES: &[u8] =
-    b"left right\nX ab\n\nvariable least most\n\ndo name with\n";
+pub(crate) const CHOICES: &[u8] = b"left right\nX ab\n\nvariable least most\n\ndo name with\n";
 
 pub(crate) const NO_EQUATION: &[u8] = b"left right\n\nvariable least most\n";
 
 // The worked tables, and what is printed of them.
-pub(crate) const WORKED: &[u8] = b"left right\nXa abY\n\nvariable least most\nX 2 2\n\ndo name with\npair a b\nleft X #26\nerase X -\nleft Y a\nerase Y -\n";
+pub(crate) const WORKED: &[u8] =
+    b"left right\nXa abY\n\nvariable least most\nX 2 2\n\ndo name with\npair a b\nleft X #26\nerase X -\nleft Y a\nerase Y -\n";
 
 pub(crate) const WORKED_LISTING: &[u8] =
     b"letter make first second\n#26 pair a b\n\nvariable length word\nX 2 #26\nY 1 a\n";
