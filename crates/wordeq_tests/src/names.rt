@@ -1,4 +1,4 @@
-// Lines of names that are wrong or missing, and where tables end.
+// Names lines that are wrong or missing, and where tables end.
 use crate::tools::{CHOICES, EQUATIONS, NO_EQUATION, refused_behind};
 use std::test::Fail;
 
@@ -33,7 +33,7 @@ static FIRST: [(&[u8], &[u8]); 22] = [
 ];
 
 #[test]
-fn the_first_line_of_names(rt: HostRuntime) -> Result<(), Fail> {
+fn the_first_names_line(rt: HostRuntime) -> Result<(), Fail> {
     refused_behind(rt.alloc(), b"", &FIRST)
 }
 
@@ -60,7 +60,7 @@ static SECOND: [(&[u8], &[u8]); 21] = [
     // the third table is missing
     (b"\nvariable least most", b"41 4 -"),
     (b"a a\n\nvariable least most", b"41 5 -"),
-    // a line of names again is an equation
+    // a names line again is an equation
     (b"left right", b"41 3 -"),
     (b"left right\n\n", b"41 4 -"),
     // no empty line before the next table
@@ -69,11 +69,11 @@ static SECOND: [(&[u8], &[u8]); 21] = [
 ];
 
 #[test]
-fn the_second_line_of_names(rt: HostRuntime) -> Result<(), Fail> {
+fn the_second_names_line(rt: HostRuntime) -> Result<(), Fail> {
     refused_behind(rt.alloc(), EQUATIONS, &SECOND)
 }
 
-// What follows the second line of names, where the third table is missing or begins otherwise.
+// What follows the second names line, where the third table is missing or begins otherwise.
 static THIRD: [(&[u8], &[u8]); 20] = [
     (b"", b"41 4 -"),
     (b"\n", b"41 5 -"),
@@ -99,7 +99,7 @@ static THIRD: [(&[u8], &[u8]); 20] = [
 ];
 
 #[test]
-fn the_third_line_of_names(rt: HostRuntime) -> Result<(), Fail> {
+fn the_third_names_line(rt: HostRuntime) -> Result<(), Fail> {
     refused_behind(rt.alloc(), NO_EQUATION, &THIRD)
 }
 
