@@ -194,6 +194,19 @@ fn rules(rt: HostRuntime) -> Result<(), Fail> {
 }
 
 #[test]
+fn rules_before_lengths(rt: HostRuntime) -> Result<(), Fail> {
+    let heap = rt.alloc();
+    // #27 spells ten to the twelfth letters
+    let others = times(heap, b"pair a b\n", 510)?;
+    let choices = joined(
+        heap,
+        &[b"block a 1000000\nblock #26 1000000\n", others.as_slice()],
+    )?;
+    let text = tables(heap, b"", choices.as_slice())?;
+    refused_behind(heap, text.as_slice(), &[(b"block #27 2\n", b"22 518 -")])
+}
+
+#[test]
 fn pops(rt: HostRuntime) -> Result<(), Fail> {
     let heap = rt.alloc();
     let choices = times(heap, b"left X a\n", 1_024)?;
