@@ -7,7 +7,10 @@ use systems::{ChoiceRefusal, LoadRefusal};
 #[test]
 fn limits_are_said(rt: HostRuntime) -> Result<(), Fail> {
     let text = format!(in rt.alloc(); "{}", LoadRefusal::TooManyPlaces)?;
-    assert_eq!(rt; text.as_str(), "all sides together would have more than 1,024 places");
+    assert_eq!(rt;
+        text.as_str(),
+        "all sides together would have more than 1,024 places"
+    );
     Ok(())
 }
 
