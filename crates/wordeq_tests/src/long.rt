@@ -161,6 +161,7 @@ fn the_last_place(rt: HostRuntime) -> Result<(), Fail> {
         with_b.as_slice(),
         &[
             (b"left A a\nleft B a\n", b"31 0 A"),
+            (b"left A a\nleft A a\n", b"21 9 -"),
             (b"left A a\nleft B a\nright B a\n", b"21 10 -"),
             (b"left A a\nright B a\nleft A a\n", b"21 10 -"),
         ],
