@@ -5,5 +5,6 @@ pub mod Numbers
 pub mod Reading
 pub mod Rows
 pub mod Stepping
+pub mod Unlisted
 pub mod Verbs
 pub mod Written

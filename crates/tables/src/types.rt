@@ -2,6 +2,7 @@ ghost use Rattle.std.specs.Prelude.{◌≡◌};
 ghost use Rattle.tables.specs.Names.{names as names_of, next_table};
 ghost use Rattle.tables.specs.Numbers.{line_number};
 
+use model::name::VariableName;
 use thiserror::Error;
 
 /// The fewest letters that a variable's word may have where the second table does not list the variable.
@@ -66,7 +67,7 @@ pub enum LineRefusal {
     #[error("the field behind {place} bytes of the line is empty or cannot be read")]
     Unreadable { place: usize },
     /// the variable is listed in a line before
-    #[error("the variable {variable} is listed in a line before", variable = capital(.0))]
+    #[error("the variable {} is listed in a line before", VariableName(*.0))]
     ListedTwice(u8),
 }
 
@@ -90,9 +91,4 @@ fn title(table: &Table) -> &'static str {
         Table::Limits => "variable least most",
         Table::Choices => "do name with",
     }
-}
-
-// The name of a variable, for a message.
-fn capital(variable: &u8) -> char {
-    char::from(b'A'.saturating_add(*variable))
 }
