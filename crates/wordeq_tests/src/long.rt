@@ -252,6 +252,25 @@ fn the_longest_word(rt: HostRuntime) -> Result<(), Fail> {
     Desk::new(heap)?.prints(found.as_slice(), listed.as_slice())
 }
 
+#[test]
+fn a_word_of_all_pops(rt: HostRuntime) -> Result<(), Fail> {
+    let heap = rt.alloc();
+    // the block makes room for more places
+    let first = times(heap, b"left X a\n", 1_000)?;
+    let last = times(heap, b"right X a\n", 24)?;
+    let choices = joined(
+        heap,
+        &[first.as_slice(), b"block a 1000\n", last.as_slice()],
+    )?;
+    let text = tables(heap, b"X X\n", choices.as_slice())?;
+    refused_behind(heap, text.as_slice(), &[(b"right X a\n", b"23 1032 -")])?;
+    let found = joined(heap, &[text.as_slice(), b"erase X -\n"])?;
+    let letters = times(heap, b",a", 1_023)?;
+    let word = joined(heap, &[b"X 1024 a", letters.as_slice(), b"\n"])?;
+    let listed = listing(heap, b"#26 block a 1000\n", word.as_slice())?;
+    Desk::new(heap)?.prints(found.as_slice(), listed.as_slice())
+}
+
 // So many lines that double a letter, from a on.
 fn doublings(heap: Global, count: u8) -> Result<Vec<u8>, Fail> {
     let mut all = Vec::new(heap);
