@@ -68,12 +68,17 @@ pub record RefusedRightly : Type 0 where
       ((why ≡ TooLong) × (32768 < length input))
       ⊎ ((close : CloseRefusal) × (t : Tables) × (S : Standing) × (why ≡ Close close) × Carried input t S × (closes t.equations t.limits S ≡ Some close) × (31 ≤ close_number close))
 
--- reading back a listing that is answered: its words solve each equation of the first table, and each variable there is within its limits
+-- the words solve each equation of the first table, and each variable that stands there is within its limits
+abbrev pub Satisfies : Tables → Words → Type 0
+Satisfies t w =
+    AllByRecursion (λ e. fill w (side_of e.0) ≡ fill w (side_of e.1)) t.equations
+    × ((x : ℕ) → OfSystem t.equations x → IsWithin t.limits x (w x))
+
+-- so do those of a listing that is answered, read back
 abbrev pub Sound : Type 0
 Sound =
     (input : Bytes) (c d : Contents) (t : Tables) → Answers input (Ok c) → ReadAs input t → valid d ≡ true → listing d ≡ listing c →
-    AllByRecursion (λ e. fill (words_of d) (side_of e.0) ≡ fill (words_of d) (side_of e.1)) t.equations
-    × ((x : ℕ) → OfSystem t.equations x → IsWithin t.limits x (words_of d x))
+    Satisfies t (words_of d)
 
 -- where the choices fit a solution
 pub record Complete : Type 0 where

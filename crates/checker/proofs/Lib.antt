@@ -1,7 +1,7 @@
 mod Adding
 mod Closes
 mod Ends
-mod Formed
+pub mod Formed
 mod Judged
 mod Popping
 mod Runs

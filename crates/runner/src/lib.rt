@@ -5,7 +5,9 @@
 mod choices;
 mod equations;
 mod limits;
+mod memory;
 mod printing;
-mod runner;
+mod running;
 
-pub use runner::Runner;
+pub use answers::{Refused, RunError};
+pub use memory::Runner;
