@@ -13,13 +13,13 @@ use Rattle.systems.proofs.Living.{live_taken, erased_gone}
 use Rattle.writing.specs.Writer.{State, lives, next, follow, Part, then, again, put, rest, front, begins, ends, empty, pop_first, pop_last, erase_empty, for_block, filled_sides}
 use Rattle.writing.proofs.Filled.{filled_next}
 use Rattle.writing.proofs.Lists.{put_here, put_there}
-use Rattle.writing.proofs.Parts.{AllSure}
+use Rattle.writing.proofs.Parts.{AllSure, again_none, then_none}
 use Rattle.std.specs.Borrow.{MutBor}
 use Rattle.leftover.specs.declared.store.Leftover.{Leftover}
 use Rattle.writer.specs.declared.store.Writer.{Writer}
 use Rattle.writer.specs.Following.{At, Follows, Wrote, Ready, Does}
 use Rattle.leftover.specs.Leaving.{begins_with, ends_with, is_emptied, length_of}
-use Rattle.writer.proofs.Following.{again_none, room_left, same_does, same_ready, then_none}
+use Rattle.writer.proofs.Following.{room_left, same_does, same_ready}
 use Rattle.writer.proofs.Joining.{blocks_letters, pairs_letters, sides_on}
 
 abbrev pub word_at : Writer → ℕ → Option Word

@@ -93,10 +93,6 @@ next_letter p w ready fresh is =
     (∥∥₁_elim ready (Bool-set _ _) (λ h. lt-ltb w.left.now.fresh 65535 (omega (arith, h.2.follows.next, h.2.holds.within.rules)))) in
     is ∙ grind (arith, small)
 
--- what comes behind a part that makes no choice
-pub then_none : (p q : Part) (st : State) → p st ≡ [] → then p q st ≡ q st
-then_none p q st none = then_is p q st ∙ ap (λ l. l ++ q (follow st l)) none
-
 -- a part for each of some numbers in turn
 
 each_more : (p : ℕ → Part) (k n : ℕ) (st : State) → each p (from k (suc n)) st ≡ then (each p (from k n)) (p (k + n)) st
@@ -182,7 +178,3 @@ module _ (p : Part) where
 
   pub again_done : (i n : ℕ) (u v : Writer) → i ≡ n → Does (upto (λ _. p) 0 i) u v → Does (again n p) u v
   again_done i n u v all done = same_does (upto (λ _. p) 0 n) (again n p) u v (λ _ st _ _. sym (again_upto n st)) (subst (λ j. Does (upto (λ _. p) 0 j) u v) all done)
-
-  pub again_none : (n : ℕ) (st : State) → p st ≡ [] → again n p st ≡ []
-  again_none zero st none = refl
-  again_none (suc n) st none = then_none p (again n p) st none ∙ again_none n st none
