@@ -6,7 +6,8 @@ mod adding;
 mod asking;
 mod replying;
 mod request;
+mod text;
 
 pub use asking::stretch_request;
-pub use replying::{Reply, reply_to};
+pub use replying::{Readout, Reply, ReplyRefusal};
 pub use request::{Request, Stretch};
