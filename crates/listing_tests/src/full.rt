@@ -64,7 +64,7 @@ fn a_refused_text_leaves_the_witness(rt: HostRuntime) -> Result<(), Fail> {
     let mut witness = full_size(heap)?;
     let mut listing = vec![in heap; 0u8; 20_000]?;
     let n = print(&witness, listing.as_mut_slice())?;
-    // without the last newline it is refused at its last line, the 542nd
+    // without the last newline it is refused at its last line, the 541st
     assert_eq!(rt;
         reader.read(&mut witness, &listing[0..n - 1]),
         Err(ReadRefusal::NotListing { line: 541 })

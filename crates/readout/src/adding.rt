@@ -1,6 +1,7 @@
 ghost use Rattle.std.specs.Prelude.{◌≡◌, ◌+◌, ◌<◌, ◌≤◌, ◌++◌, length, Ok};
 ghost use Rattle.model.specs.Witnesses.{spelled};
-ghost use Rattle.witness.specs.Answers.{length_answer};
+ghost use Rattle.text.specs.Pieces.{Bytes};
+ghost use Rattle.witness.specs.Answers.{fill_answer, filled, length_answer};
 ghost use Rattle.witness.specs.Holding.{contents_of};
 ghost use Rattle.readout.specs.Rows.{row, shown, table};
 
@@ -9,6 +10,20 @@ use witness::Witness;
 
 // How many letters of a word a table shows.
 const SHOWN: u64 = 64;
+
+// Adds the first letters of what the word of a variable spells.
+fn add_letters(text: &mut Text, witness: &Witness, variable: u8, count: usize)
+    requires few { count ≤ 64 }
+    requires there { fill_answer (spelled (contents_of witness.now) variable) 0 count ≡ Ok tt }
+    requires room { length text.old.items ≤ 3930 }
+    ensures items { (before : Bytes) × (length before ≡ count) × (text.new.items ≡ text.old.items ++ filled (spelled (contents_of witness.now) variable) 0 before) }
+    ensures bound { length text.new.items ≤ length text.old.items + 64 }
+{
+    let mut letters = [0; SHOWN as usize];
+    let beginning = &mut letters[..count];
+    witness.fill(variable, 0, beginning).unwrap();
+    add(text, beginning);
+}
 
 // Adds how the word of a variable begins, which spells so many letters. (A witness and a variable stay two parameters: a struct of them would be made for
 // each row and read by one call.)
@@ -22,11 +37,8 @@ fn add_beginning(text: &mut Text, witness: &Witness, variable: u8, total: u64)
         add(text, b"-");
         return;
     }
-    let mut letters = [0; SHOWN as usize];
     // a cast, since there is no From to usize; it is at most 64
-    let count = total.min(SHOWN) as usize;
-    witness.fill(variable, 0, &mut letters[..count]).unwrap();
-    add(text, &letters[..count]);
+    add_letters(text, witness, variable, total.min(SHOWN) as usize);
     if total > SHOWN {
         add(text, b"...");
     }

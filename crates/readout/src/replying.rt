@@ -1,10 +1,11 @@
-ghost use Rattle.std.specs.Prelude.{◌≡◌, ◌<◌, ◌≤◌, true, false, [], ◌∷◌, length, IfOk, MatchResult, codes};
+ghost use Rattle.std.specs.Prelude.{◌≡◌, ◌<◌, ◌≤◌, true, false, [], ◌∷◌, ◌++◌, length, IfOk, MatchResult, Ok, Err, codes};
 ghost use Rattle.model.specs.Buffers.{Put};
 ghost use Rattle.model.specs.Witnesses.{spelled};
 ghost use Rattle.listing.specs.Refusals.{read_number};
 ghost use Rattle.witness.specs.Holding.{contents_of};
 ghost use Rattle.readout.specs.Replies.{Answers, Says, end_of, has_room, named, refusal_text, refused_line, reply_number, said, stretch_said};
-ghost use Rattle.witness.specs.Answers.{as_text};
+ghost use Rattle.text.specs.Pieces.{Bytes};
+ghost use Rattle.witness.specs.Refusals.{witness_number};
 
 use crate::adding::table_of;
 use crate::request::{Request, Stretch};
@@ -74,15 +75,11 @@ fn text_of_line(refusal: ReadRefusal) -> Text
 fn put_letters(witness: &Witness, stretch: Stretch, out: &mut [u8]) -> Result<(), WitnessRefusal>
     requires { stretch.count < length out.old }
     ensures answer { let word = spelled (contents_of witness.now) stretch.variable in MatchResult result
-        (λ _. (text : List ℕ) × (letters_said word stretch ≡ Ok text) × Put out.old 0 text out.new stretch.count)
-        (λ e. (letters_said word stretch ≡ Err (witness_number e)) × (out.new ≡ out.old)) }
+        (λ _. (letters : Bytes) × (stretch_said word stretch ≡ Ok (letters ++ codes "\n")) × Put out.old 0 letters out.new stretch.count)
+        (λ e. (stretch_said word stretch ≡ Err (refusal_text (witness_number e) 0 (named stretch.variable))) × (out.new ≡ out.old)) }
     ensures long { length out.new ≡ length out.old }
 {
-    witness.fill(
-        stretch.variable,
-        stretch.start,
-        &mut out[..stretch.count],
-    )
+    witness.fill(stretch.variable, stretch.start, &mut out[..stretch.count])
 }
 
 // Puts a newline at a place of a buffer, and answers the place behind it.
