@@ -5,7 +5,7 @@ ghost use Rattle.witness.specs.Answers.{fill_answer, filled, length_answer};
 ghost use Rattle.witness.specs.Holding.{contents_of};
 ghost use Rattle.readout.specs.Rows.{row, shown, table};
 
-use crate::text::{Text, add, add_number};
+use crate::building::{Text, add, add_number};
 use witness::Witness;
 
 // How many letters of a word a table shows.

@@ -4,9 +4,9 @@
 
 mod adding;
 mod asking;
+mod building;
 mod replying;
 mod request;
-mod text;
 
 pub use asking::stretch_request;
 pub use replying::{Readout, Reply, ReplyRefusal};

@@ -8,8 +8,8 @@ ghost use Rattle.text.specs.Pieces.{Bytes};
 ghost use Rattle.witness.specs.Refusals.{witness_number};
 
 use crate::adding::table_of;
+use crate::building::{MOST_BYTES, Text, add, add_number, put};
 use crate::request::{Request, Stretch};
-use crate::text::{MOST_BYTES, Text, add, add_number, put};
 use listing::{ReadRefusal, Reader};
 use std::alloc::{AllocError, Global};
 use thiserror::Error;
