@@ -58,8 +58,8 @@ fn start(left: &mut Leftover, sides: &Sides, given: &GivenWords) -> Result<(), W
     judge_filled(left.filled())
 }
 
-// Reads what is left before the first choice: the words of the system's variables, and its sides with them filled in; or says why no list is written,
-// where there is room for one. Whatever was left is forgotten. (What is left after a refusal is not told.)
+/// Reads what is left before the first choice: the words of the system's variables, and its sides with them filled in; or says why no list is written,
+/// where there is room for one. Whatever was left is forgotten. (What is left after a refusal is not told.)
 pub fn read(left: &mut Leftover, system: &System, given: &GivenWords) -> Result<(), WriteRefusal>
     ensures { let due = write_refusal (loading system.now) given.now.buffer.now given.now.spans 1050 in MatchResult result
         (λ _. (due ≡ None) × Leaves left.new (beside (loading system.now) (words_given (loading system.now) given.now.buffer.now given.now.spans)))
