@@ -71,7 +71,7 @@ fn read_lines(witness: &mut Witness, text: &[u8]) -> Result<(), usize>
     }
 }
 
-// A reader of listings, one after another, in memory that is reserved once: `new` alone can lack memory.
+/// A reader of listings, one after another, in memory that is reserved once: `new` alone can lack memory.
 #[derive(Drop)]
 pub struct Reader {
     // a text is read into it, so that the caller's witness stays as it is where the text is refused
@@ -79,14 +79,16 @@ pub struct Reader {
 }
 
 impl Reader {
-    // Room for a witness beside the caller's. (What was read before counts for nothing, so nothing is told of it.)
+    /// Room for a witness beside the caller's.
+    // What was read before counts for nothing, so nothing is told of it.
     pub fn new(heap: Global) -> Result<Reader, AllocError> {
         Ok(Reader {
             spare: Witness::new(heap)?,
         })
     }
 
-    // Reads a listing into the witness, in place of what it held; or says at which line the text is none, and leaves the witness as it was.
+    /// Reads a listing into the witness, in place of what it held; refused (72) at the first line that no listing has there, and then the witness is as
+    /// it was.
     pub fn read(&mut self, witness: &mut Witness, text: &[u8]) -> Result<(), ReadRefusal>
         ensures answer { MatchResult result
             (λ _. (text.now ≡ listing (contents_of witness.new)) × (valid (contents_of witness.new) ≡ true))

@@ -15,25 +15,25 @@ use std::alloc::{AllocError, Global};
 use thiserror::Error;
 use witness::{Witness, WitnessRefusal};
 
-// What is replied, at the front of the caller's buffer.
+/// What is replied, at the front of the caller's buffer.
 #[derive(Clone, Copy, PartialEq, Eq, Debug)]
 pub enum Reply {
-    // the text that was asked for, in so many bytes
+    /// the text that was asked for, in so many bytes
     Granted(usize),
-    // the text of a refusal
+    /// the text of a refusal
     Refused(usize),
 }
 
-// Why nothing is replied.
+/// Why nothing is replied.
 #[derive(Clone, Copy, PartialEq, Eq, Debug, Error)]
 pub enum ReplyRefusal {
-    // it has fewer than 4,000 bytes, or is not longer than the stretch
+    /// 91: the buffer has fewer than 4,000 bytes, or is not longer than the stretch
     #[error("the buffer has no room for the reply")]
     BufferTooShort,
 }
 
 impl ReplyRefusal {
-    // The refusal's number.
+    /// The refusal's number.
     pub fn number(self) -> u8
         ensures { result ≡ reply_number self }
     {
@@ -134,7 +134,7 @@ fn witness_reply(witness: &Witness, request: Request, out: &mut [u8]) -> Reply
     }
 }
 
-// What is said to requests of listings, one after another, in memory that is reserved once: `new` alone can lack memory.
+/// What is said to requests of listings, one after another, in memory that is reserved once: `new` alone can lack memory.
 #[derive(Drop)]
 pub struct Readout {
     reader: Reader,
@@ -142,7 +142,8 @@ pub struct Readout {
 }
 
 impl Readout {
-    // Room for a witness and for reading it. (What was read before counts for nothing, so nothing is told of it.)
+    /// Room for a witness and for reading it.
+    // What was read before counts for nothing, so nothing is told of it.
     pub fn new(heap: Global) -> Result<Readout, AllocError> {
         Ok(Readout {
             reader: Reader::new(heap)?,
@@ -150,8 +151,8 @@ impl Readout {
         })
     }
 
-    // Puts at the front of `out` what a listing says to a request, or the first line that no listing has there, and leaves what stands behind it; or
-    // changes nothing where the buffer is too short.
+    /// Puts at the front of `out` what a listing says to a request, or the first line that no listing has there, and leaves what stands behind it;
+    /// refused (91) where `out` has no room for it, and then `out` is as it was.
     pub fn reply(
         &mut self,
         request: Request,
