@@ -1,4 +1,3 @@
-pub mod Errors
 pub mod Judging
 pub mod Loads
 pub mod Steps

@@ -1,23 +1,22 @@
 -- What some loads give of a system, and what is left before the first choice. Assumes nothing.
-use Rattle.std.proofs.Common.{◌≡◌, ℕ, ◌<◌, ◌≤◌, true, cond, List, map, length, get_or, Some, None, sym, ap, ◌∙◌, subst, arith, lit≤}
+use Rattle.std.proofs.Common.{◌≡◌, ℕ, ◌<◌, ◌≤◌, true, List, length, Some, None, Ok, Err, Result, MatchResult, sym, ap, ◌∙◌, subst, arith, lit≤}
 use mathlib.Core.Bool.{Bool-set}
 use mathlib.Core.Logic.{∥∥₁_elim}
 use Rattle.std.proofs.lemmas.Bool.{eq-eqb, eqb-true, le-leb, leb-true, lt-ltb, ltb-true}
-use Rattle.systems.specs.declared.Place.TheVariants.{Letter}
 use Rattle.systems.specs.Runs.{opened}
-use Rattle.systems.specs.Sides.{Equation, fill, places, sides, stands_in}
+use Rattle.systems.specs.Sides.{Equation, places}
 use Rattle.systems.specs.Standings.{Standing, fresh, live, new}
 use Rattle.systems.proofs.Forming.{opened_bare, opened_formed}
 use Rattle.sides.specs.Holding.{only}
 use Rattle.writing.specs.declared.Span.{Span}
+use Rattle.writing.specs.declared.WriteRefusal.{WriteRefusal}
 use Rattle.writing.specs.Refusals.{given, write_refusal}
 use Rattle.writing.specs.Writer.{beside}
 use Rattle.writing.proofs.Final.{few_loaded}
 use Rattle.writing.proofs.Limited.{live_low}
 use Rattle.leftover.specs.declared.store.Leftover.{Leftover}
 use Rattle.leftover.specs.Left.{Leaves}
-use Rattle.given.specs.declared.error.WriteError.{WriteError}
-use Rattle.given.specs.Reading.{Refuses}
+use Rattle.given.specs.Reading.{Begun}
 use Rattle.checker.specs.Running.{SomeLoads}
 
 pub some_few : (S : Standing) → SomeLoads S → places S.equations ≤ 1024
@@ -36,15 +35,16 @@ some_bare S some =
     eq-eqb (fresh S) 26 (omega (arith, none))))
 
 module _ (buffer : List ℕ) (spans : List Span) where
-  -- what is read of the sides of a system is what is left where it begins
+  -- what is read of some equations
   abbrev pub Read : List Equation → Leftover → Type 0
-  Read E r = (write_refusal (only E) buffer spans 1050 ≡ None) × ((x : ℕ) → x < 26 → get_or r.words x None ≡ cond (stands_in E x) (Some (given (only E) buffer spans x)) None) × (sides r.filled ≡ map (map Letter) (map (fill (given (only E) buffer spans)) (sides E)))
+  Read E r = (write_refusal (only E) buffer spans 1050 ≡ None) × Begun E buffer spans r
 
-  pub leaves_at : (S : Standing) (E : List Equation) (r : Leftover) → SomeLoads S → E ≡ S.equations → length r.words ≡ 26 → r.fresh ≡ 26 → Read E r → (write_refusal S buffer spans 1050 ≡ None) × Leaves r (beside S (given S buffer spans))
-  leaves_at S E r some is all first read =
+  leaves_at : (S : Standing) (E : List Equation) (r : Leftover) → SomeLoads S → E ≡ S.equations → Read E r → (write_refusal S buffer spans 1050 ≡ None) × Leaves r (beside S (given S buffer spans))
+  leaves_at S E r some is read =
       let here : Read S.equations r = subst (λ F. Read F r) is read in
-      (here.0, record { words = here.1; all = all; filled = here.2; next = first ∙ sym (some_bare S some) })
+      (here.0, record { words = here.1.words; all = r.long; filled = here.1.filled; next = here.1.next ∙ sym (some_bare S some) })
 
-  -- and where it is refused, so is the system
-  pub refuses_at : (S : Standing) (E : List Equation) (e : WriteError) → E ≡ S.equations → Refuses e (write_refusal (only E) buffer spans 1050) → Refuses e (write_refusal S buffer spans 1050)
-  refuses_at S E e is = subst (λ F. Refuses e (write_refusal (only F) buffer spans 1050)) is
+  -- so is what is answered of a system
+  pub answer_at : {U : Type 0} (S : Standing) (E : List Equation) (r : Leftover) → SomeLoads S → E ≡ S.equations → (o : Result U WriteRefusal) → MatchResult o (λ _. Read E r) (λ e. write_refusal (only E) buffer spans 1050 ≡ Some e) → MatchResult o (λ _. (write_refusal S buffer spans 1050 ≡ None) × Leaves r (beside S (given S buffer spans))) (λ e. write_refusal S buffer spans 1050 ≡ Some e)
+  answer_at S E r some is (Ok u) read = leaves_at S E r some is read
+  answer_at S E r some is (Err why) h = subst (λ F. write_refusal (only F) buffer spans 1050 ≡ Some why) is h

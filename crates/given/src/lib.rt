@@ -2,11 +2,9 @@
 
 #![tactic(auto)]
 
-mod error;
 mod filling;
 mod reading;
 mod words;
 
-pub use error::WriteError;
 pub use reading::read;
 pub use words::GivenWords;

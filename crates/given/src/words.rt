@@ -3,10 +3,12 @@ ghost use Rattle.writing.specs.Refusals.{a_to_z, bytes_at, is_word, span_of};
 
 use writing::Span;
 
-// The words of A to Z that a caller gives, each a part of one buffer.
+/// The words of A to Z that a caller gives, each a part of one buffer.
 #[derive(Clone, Copy, Debug)]
 pub struct GivenWords<'a> {
+    /// the bytes of all words, a to z
     pub buffer: &'a [u8],
+    /// where the word of each of A to Z stands
     pub spans: [Span; 26],
 }
 

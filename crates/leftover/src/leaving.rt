@@ -1,77 +1,40 @@
 // What a choice leaves of the words and of the filled-in sides.
-ghost use Rattle.std.specs.Prelude.{◌≡◌, ℕ, ◌+◌, ◌<◌, false, is_some, None, IfOk, map, min, nat_eq, if◌then◌else◌, slice_index_or, slice_set};
+ghost use Rattle.std.specs.Prelude.{◌≡◌, ℕ, ◌+◌, ◌<◌, false, is_some, None, map, min, nat_eq, if◌then◌else◌, option_copied, slice_index_or, slice_set};
 ghost use Rattle.std.specs.Option.{option_map};
 ghost use Rattle.systems.specs.Rows.{any};
 ghost use Rattle.systems.specs.Sides.{on_sides};
 ghost use Rattle.sides.specs.Marks.{marks_of};
-ghost use Rattle.writing.specs.Writer.{begins, ends, first, front, rest, variables};
+ghost use Rattle.writing.specs.Writer.{first, front, rest, variables};
 ghost use Rattle.leftover.specs.Leaving.{begins_with, ends_with, is_emptied, joined_side, joined_word, length_of, two_of};
 ghost use Rattle.leftover.specs.Noting.{mark_rows};
 
 use crate::lengths::{Lengths, lengths_in};
-use crate::store::{Leftover, Word};
+use crate::store::{Leftover, Z};
 use model::Rule;
 use sides::Sides;
-use std::alloc::{AllocError, Global};
-use std::mem;
-use std::num::NonZeroU32;
-
-// The last variable.
-const Z: u8 = 25;
-
-// Takes off a first letter a, if there is one; answers whether there is.
-fn take_first(word: &mut Word, a: u16) -> bool
-    ensures answer { result ≡ begins a word.old }
-    ensures word { word.new ≡ (if result then rest word.old else word.old) }
-{
-    match word.as_slice() {
-        [first, ..] if *first == a => {
-            word.pop_first();
-            true
-        }
-        _ => false,
-    }
-}
-
-// Takes off a last letter a, if there is one; answers whether there is.
-#[tactic(auto, using(crate::proofs::Words::ends_at, crate::proofs::Words::front_of))]
-fn take_last(word: &mut Word, a: u16) -> bool
-    ensures answer { result ≡ ends a word.old }
-    ensures word { word.new ≡ (if result then front word.old else word.old) }
-{
-    match word.as_slice() {
-        [.., last] if *last == a => {
-            word.pop();
-            true
-        }
-        _ => false,
-    }
-}
 
 impl Leftover {
-    // Nothing is made yet: the words as they are given, and the sides with them filled in.
-    pub fn new(
-        heap: Global,
-        words: [Option<Word>; 26],
-        filled: Sides,
-    ) -> Result<Leftover, AllocError>
-        ensures { IfOk result (λ rest. (rest.words ≡ words) × (rest.filled ≡ filled) × (rest.fresh ≡ 26)) }
+    // What is left of the word of x, where x is live.
+    fn word(&self, x: u8) -> Option<&[u16]>
+        ensures { option_copied result ≡ slice_index_or self.now.words x None }
     {
-        Ok(Leftover {
-            words,
-            spare: Word::new(heap)?,
-            filled,
-            fresh: 26,
-        })
+        self.words.get(usize::from(x))?.word()
+    }
+
+    // The sides with the words filled in, as equations without a variable.
+    pub fn filled(&self) -> &Sides
+        ensures { result.now ≡ self.now.filled }
+    {
+        &self.filled
     }
 
     // How many letters are left of the word of x.
     pub fn letters(&self, x: u8) -> usize
         ensures { result ≡ length_of (slice_index_or self.now.words x None) }
     {
-        match self.words.get(usize::from(x)) {
-            Some(Some(word)) => word.len(),
-            Some(None) | None => 0,
+        match self.word(x) {
+            Some(word) => word.len(),
+            None => 0,
         }
     }
 
@@ -87,7 +50,7 @@ impl Leftover {
         ensures { result ≡ first (λ x. is_some (slice_index_or self.now.words x None)) variables }
     {
         for x in 0..26 {
-            if self.words[usize::from(x)].is_some() {
+            if self.words[usize::from(x)].word().is_some() {
                 return Some(x);
             }
         }
@@ -98,7 +61,7 @@ impl Leftover {
     pub fn first_two(&self, x: u8) -> Option<(u16, Option<u16>)>
         ensures { result ≡ two_of (slice_index_or self.now.words x None) }
     {
-        match self.words.get(usize::from(x))?.as_ref()?.as_slice() {
+        match self.word(x)? {
             [] => None,
             [a] => Some((*a, None)),
             [a, b, ..] => Some((*a, Some(*b))),
@@ -115,10 +78,7 @@ impl Leftover {
         if x > Z {
             return false;
         }
-        match &mut self.words[usize::from(x)] {
-            Some(word) => take_first(word, a),
-            None => false,
-        }
+        self.words[usize::from(x)].pop_first(a)
     }
 
     // Pops a last letter a of the word of x, if that ends with a; answers whether it does.
@@ -131,10 +91,7 @@ impl Leftover {
         if x > Z {
             return false;
         }
-        match &mut self.words[usize::from(x)] {
-            Some(word) => take_last(word, a),
-            None => false,
-        }
+        self.words[usize::from(x)].pop_last(a)
     }
 
     // Erases x if its word is empty; answers whether it is.
@@ -144,14 +101,10 @@ impl Leftover {
         ensures filled { self.new.filled ≡ self.old.filled }
         ensures fresh { self.new.fresh ≡ self.old.fresh }
     {
-        if x <= Z
-            && let Some(word) = &self.words[usize::from(x)]
-            && word.len() == 0
-        {
-            self.words[usize::from(x)] = None;
-            return true;
+        if x > Z {
+            return false;
         }
-        false
+        self.words[usize::from(x)].erase_empty()
     }
 
     // Joins in what is left of the word of x.
@@ -161,18 +114,7 @@ impl Leftover {
         ensures filled { self.new.filled ≡ self.old.filled }
         ensures fresh { self.new.fresh ≡ self.old.fresh }
     {
-        if let Some(word) = &mut self.words[usize::from(x)] {
-            match rule {
-                Rule::Pair(a, b) => rows::put_pairs(&mut self.spare, word, a, b, self.fresh),
-                Rule::Block(a, n) => {
-                    let Some(n) = NonZeroU32::new(n) else {
-                        return;
-                    };
-                    rows::put_blocks(&mut self.spare, word, a, n, self.fresh);
-                }
-            }
-            mem::swap(word, &mut self.spare);
-        }
+        self.words[usize::from(x)].join(&mut self.spare, rule, self.fresh);
     }
 
     // Joins in the filled-in sides.

@@ -2,9 +2,11 @@
 
 #![tactic(auto)]
 
+mod beginning;
 mod leaving;
 mod lengths;
+mod slot;
 mod store;
 
 pub use lengths::Lengths;
-pub use store::{Leftover, MOST_LETTERS, Word};
+pub use store::{Leftover, MOST_LETTERS};

@@ -11,5 +11,5 @@ mod rules;
 mod words;
 
 pub use printing::print;
-pub use reading::read;
+pub use reading::Reader;
 pub use refusals::{PrintRefusal, ReadRefusal};

@@ -115,7 +115,8 @@ impl Printer<'_> {
 // No listing is longer.
 const LONGEST: usize = 20_000;
 
-// Writes the listing to the front of `out`, leaves what stands behind it, and answers its length.
+/// Writes the listing to the front of `out`, leaves what stands behind it, and answers its length; refused (71) where `out` has fewer than 20,000 bytes,
+/// and then `out` is as it was.
 pub fn print(witness: &Witness, out: &mut [u8]) -> Result<usize, PrintRefusal>
     ensures { MatchResult result
         (λ n. (20000 ≤ length out.old) × Put out.old 0 (listing (contents_of witness.now)) out.new n)

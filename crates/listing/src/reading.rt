@@ -1,4 +1,4 @@
-ghost use Rattle.std.specs.Prelude.{◌≡◌, true, MatchOption, MatchResult};
+ghost use Rattle.std.specs.Prelude.{◌≡◌, true, IfErr, MatchOption, MatchResult};
 ghost use Rattle.model.specs.Witnesses.{valid};
 ghost use Rattle.format.specs.Listing.{listing};
 ghost use Rattle.format.specs.Reading.{Refused};
@@ -10,6 +10,8 @@ ghost use Rattle.listing.specs.Stages.{Even, Led, state_of};
 use crate::entries::read_entry;
 use crate::refusals::ReadRefusal;
 use crate::rules::read_rule;
+use std::alloc::{AllocError, Global};
+use std::mem;
 use text::take_field;
 use witness::Witness;
 
@@ -69,13 +71,33 @@ fn read_lines(witness: &mut Witness, text: &[u8]) -> Result<(), usize>
     }
 }
 
-// Reads a listing into the witness, which is cleared first; or says at which line the text is none.
-pub fn read(mut witness: Witness, text: &[u8]) -> Result<Witness, ReadRefusal>
-    ensures { MatchResult result
-        (λ w. (text.now ≡ listing (contents_of w)) × (valid (contents_of w) ≡ true))
-        (λ e. (read_number e ≡ 72) × Refuses text.now e) }
-{
-    witness.clear();
-    read_lines(&mut witness, text).map_err(|line| ReadRefusal::NotListing { line })?;
-    Ok(witness)
+/// A reader of listings, one after another, in memory that is reserved once: `new` alone can lack memory.
+#[derive(Drop)]
+pub struct Reader {
+    // a text is read into it, so that the caller's witness stays as it is where the text is refused
+    spare: Witness,
+}
+
+impl Reader {
+    /// Room for a witness beside the caller's.
+    // What was read before counts for nothing, so nothing is told of it.
+    pub fn new(heap: Global) -> Result<Reader, AllocError> {
+        Ok(Reader {
+            spare: Witness::new(heap)?,
+        })
+    }
+
+    /// Reads a listing into the witness, in place of what it held; refused (72) at the first line that no listing has there, and then the witness is as
+    /// it was.
+    pub fn read(&mut self, witness: &mut Witness, text: &[u8]) -> Result<(), ReadRefusal>
+        ensures answer { MatchResult result
+            (λ _. (text.now ≡ listing (contents_of witness.new)) × (valid (contents_of witness.new) ≡ true))
+            (λ e. Refuses text.now e × (witness.new ≡ witness.old)) }
+        ensures number { IfErr result (λ e. read_number e ≡ 72) }
+    {
+        self.spare.clear();
+        read_lines(&mut self.spare, text).map_err(|line| ReadRefusal::NotListing { line })?;
+        mem::swap(witness, &mut self.spare);
+        Ok(())
+    }
 }

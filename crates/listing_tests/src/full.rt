@@ -1,5 +1,5 @@
 // A witness of full size, printed and read back.
-use listing::{PrintRefusal, print, read};
+use listing::{PrintRefusal, ReadRefusal, Reader, print};
 use model::{Rule, RuleRefusal};
 use std::alloc::Global;
 use std::test::Fail;
@@ -45,13 +45,37 @@ fn printed_and_read_back(rt: HostRuntime) -> Result<(), Fail> {
     let mut first = vec![in heap; 0u8; 20_000]?;
     let n = print(&witness, first.as_mut_slice())?;
     assert!(rt; n <= first.len());
-    let again = read(Witness::new(heap)?, &first[0..n])?;
+    let mut reader = Reader::new(heap)?;
+    let mut again = Witness::new(heap)?;
+    reader.read(&mut again, &first[0..n])?;
     let mut second = vec![in heap; 0u8; 20_000]?;
     assert_eq!(rt; print(&again, second.as_mut_slice()), Ok(n));
     assert!(rt; first == second);
     for variable in 0..26 {
         assert_eq!(rt; again.length(variable), witness.length(variable));
     }
+    Ok(())
+}
+
+#[test]
+fn a_refused_text_leaves_the_witness(rt: HostRuntime) -> Result<(), Fail> {
+    let heap = rt.alloc();
+    let mut reader = Reader::new(heap)?;
+    let mut witness = full_size(heap)?;
+    let mut listing = vec![in heap; 0u8; 20_000]?;
+    let n = print(&witness, listing.as_mut_slice())?;
+    // without the last newline it is refused at its last line, the 541st
+    assert_eq!(rt;
+        reader.read(&mut witness, &listing[0..n - 1]),
+        Err(ReadRefusal::NotListing { line: 541 })
+    );
+    let mut again = vec![in heap; 0u8; 20_000]?;
+    assert_eq!(rt; print(&witness, again.as_mut_slice()), Ok(n));
+    assert!(rt; listing == again);
+    // and then the reader reads on
+    assert_eq!(rt; reader.read(&mut witness, &listing[0..n]), Ok(()));
+    assert_eq!(rt; print(&witness, again.as_mut_slice()), Ok(n));
+    assert!(rt; listing == again);
     Ok(())
 }
 

@@ -1,13 +1,13 @@
 // Texts that are no listings, and the line at which each is refused.
-use listing::{ReadRefusal, read};
+use listing::{ReadRefusal, Reader};
 use std::alloc::Global;
 use std::test::Fail;
 use witness::Witness;
 
 // The refused line, or 0 for a listing.
 fn refused(heap: Global, text: &[u8]) -> Result<usize, Fail> {
-    match read(Witness::new(heap)?, text) {
-        Ok(_) => Ok(0),
+    match Reader::new(heap)?.read(&mut Witness::new(heap)?, text) {
+        Ok(()) => Ok(0),
         Err(ReadRefusal::NotListing { line }) => Ok(line),
     }
 }

@@ -1,5 +1,5 @@
 // What witnesses spell.
-use listing::{ReadRefusal, read};
+use listing::Reader;
 use model::Rule;
 use std::alloc::Global;
 use std::test::Fail;
@@ -9,10 +9,9 @@ use witness::{Witness, WitnessRefusal};
 const X: u8 = 23;
 
 fn read_or_fail(heap: Global, text: &[u8]) -> Result<Witness, Fail> {
-    match read(Witness::new(heap)?, text) {
-        Ok(witness) => Ok(witness),
-        Err(ReadRefusal::NotListing { line: _ }) => Err(Fail::new("no listing")),
-    }
+    let mut witness = Witness::new(heap)?;
+    Reader::new(heap)?.read(&mut witness, text)?;
+    Ok(witness)
 }
 
 #[test]

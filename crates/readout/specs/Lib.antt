@@ -1,4 +1,3 @@
 pub mod Asking
 pub mod Replies
 pub mod Rows
-pub mod Stretches

@@ -1,9 +1,10 @@
 -- What is replied to a request. Assumes nothing.
-use Rattle.std.specs.Prelude.{◌≡◌, ℕ, ◌+◌, true, cond, ◌⊎◌, ◌++◌, length, take, drop, Some, None, Ok, Err, codes, decimal, Option, Result, nat_le, nat_lt}
+use Rattle.std.specs.Prelude.{◌≡◌, ℕ, ◌+◌, Bool, true, cond, ◌&&◌, ◌⊎◌, List, ◌++◌, length, take, drop, Some, None, Ok, Err, codes, decimal, Option, Result, nat_le, nat_lt}
 use Rattle.model.specs.Spelling.{Word}
 use Rattle.model.specs.Witnesses.{Contents, spelled, valid}
 use Rattle.text.specs.Names.{variable_name}
 use Rattle.text.specs.Pieces.{Bytes}
+use Rattle.text.specs.Refusals.{refusal_text}
 use Rattle.format.specs.Listing.{listing}
 use Rattle.format.specs.Reading.{Refused}
 use Rattle.witness.specs.Answers.{as_text}
@@ -12,11 +13,12 @@ use Rattle.listing.specs.declared.refusals.ReadRefusal.TheVariants.{NotListing}
 use Rattle.readout.specs.declared.request.Request.{Request}
 use Rattle.readout.specs.declared.request.Request.TheVariants.{Table, Stretch as StretchRequest}
 use Rattle.readout.specs.declared.request.Stretch.{Stretch}
+use Rattle.model.specs.Buffers.{Put}
+use Rattle.readout.specs.declared.replying.Reply.{Reply}
+use Rattle.readout.specs.declared.replying.Reply.TheVariants.{Granted, Refused as RefusedReply}
+use Rattle.readout.specs.declared.replying.ReplyRefusal.{ReplyRefusal}
+use Rattle.readout.specs.declared.replying.ReplyRefusal.TheVariants.{BufferTooShort}
 use Rattle.readout.specs.Rows.{table}
-
--- a refusal by its number, with the line and a detail
-abbrev pub refusal_text : ℕ → ℕ → Bytes → Bytes
-refusal_text number line detail = codes "refusal line detail\n" ++ (decimal number ++ (codes " " ++ (decimal line ++ (codes " " ++ (detail ++ codes "\n")))))
 
 abbrev pub refused_line : ReadRefusal → ℕ
 refused_line (NotListing line) = line
@@ -44,3 +46,26 @@ abbrev pub Replied : Request → Bytes → Said → Type 0
 Replied request input reply =
     ((c : Contents) × (valid c ≡ true) × (input ≡ listing c) × (reply ≡ said request c))
     ⊎ ((k : ℕ) × Refused input k × (reply ≡ Err (refusal_text 72 k (codes "-"))))
+
+-- a buffer of so many bytes has room for what is replied to a request
+abbrev pub has_room : Request → ℕ → Bool
+has_room Table room = nat_le 4000 room
+has_room (StretchRequest s) room = nat_le 4000 room && nat_lt s.count room
+
+-- the number of the refusal of a buffer that has none
+abbrev pub reply_number : ReplyRefusal → ℕ
+reply_number BufferTooShort = 91
+
+-- the place behind a reply
+abbrev pub end_of : Reply → ℕ
+end_of (Granted n) = n
+end_of (RefusedReply n) = n
+
+-- this is what stands at the front of a buffer, and what stands behind it is as it was
+abbrev pub Says : Reply → Said → List ℕ → List ℕ → Type 0
+Says (Granted n) answer old new = (text : Bytes) × (answer ≡ Ok text) × Put old 0 text new n
+Says (RefusedReply n) answer old new = (text : Bytes) × (answer ≡ Err text) × Put old 0 text new n
+
+-- it is what is replied to the request
+abbrev pub Answers : Reply → Request → Bytes → List ℕ → List ℕ → Type 0
+Answers reply request input old new = (answer : Said) × Replied request input answer × Says reply answer old new

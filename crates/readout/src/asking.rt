@@ -7,9 +7,8 @@ use text::{number, variable};
 // No more letters may be asked for at once.
 const MOST_LETTERS: u64 = 1_000_000;
 
-// The stretch that three words ask for: a variable, the place where it starts, and how many letters it has. (Its count is cast, since there is no
-// From to
-// usize; the test before shows that it fits.)
+/// The stretch that three words ask for: a variable, the place where it starts, and how many letters it has, at most 1,000,000.
+// The count is cast, since there is no From to usize; the test before shows that it fits.
 pub fn stretch_request(name: &[u8], start: &[u8], count: &[u8]) -> Option<Request>
     ensures { Reads Askable three_words (name.now, start.now, count.now) result }
 {

@@ -4,9 +4,10 @@
 
 mod adding;
 mod asking;
+mod building;
 mod replying;
 mod request;
 
 pub use asking::stretch_request;
-pub use replying::{Reply, reply_to};
+pub use replying::{Readout, Reply, ReplyRefusal};
 pub use request::{Request, Stretch};

@@ -60,19 +60,16 @@ impl Sides {
         self.number = 0;
     }
 
-    // The same sides, in memory of their own. (Not Clone, whose method is handed no heap.)
-    pub fn try_clone(&self, heap: Global) -> Result<Sides, AllocError>
-        ensures { IfOk result (λ s. s ≡ self.now) }
+    /// Takes the sides of another in place of its own.
+    pub fn copy_from(&mut self, other: &Sides)
+        ensures { self.new ≡ other.now }
     {
-        let mut marks = Marks::new(heap)?;
-        for mark in self.marks.as_slice() {
-            put(&mut marks, *mark);
+        self.spare.clear();
+        for mark in other.marks.as_slice() {
+            put(&mut self.spare, *mark);
         }
-        Ok(Sides {
-            marks,
-            spare: Marks::new(heap)?,
-            number: self.number,
-        })
+        mem::swap(&mut self.marks, &mut self.spare);
+        self.number = other.number;
     }
 
     // The places of all sides in order, with an end behind each side.

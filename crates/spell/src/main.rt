@@ -2,13 +2,17 @@
 
 #![tactic(auto)]
 
-use readout::{Request, reply_to, stretch_request};
+use readout::{Readout, Reply, ReplyRefusal, Request, stretch_request};
+use std::alloc::{AllocError, Global};
 use std::env;
 use std::io::{Read, Write};
 use std::process::ExitCode;
 
 const USAGE: &str =
     "usage: spell < LISTING, or spell VARIABLE START COUNT < LISTING with a variable A to Z and a count of at most 1000000";
+
+// A stretch of 1,000,000 letters and a newline.
+const LONGEST_REPLY: usize = 1_000_001;
 
 // What the arguments ask for, if they ask for something.
 fn request(words: &[String]) -> Option<Request> {
@@ -23,6 +27,24 @@ fn request(words: &[String]) -> Option<Request> {
     }
 }
 
+// A buffer of so many bytes. (A function of its own, whose proof has no number of a million.)
+fn buffer(heap: Global, length: usize) -> Result<Vec<u8>, AllocError> {
+    vec![in heap; 0; length]
+}
+
+// The status to end with, and what is replied, in the buffer.
+fn answer<'a>(
+    readout: &mut Readout,
+    request: Request,
+    input: &[u8],
+    out: &'a mut [u8],
+) -> Result<(ExitCode, &'a [u8]), ReplyRefusal> {
+    match readout.reply(request, input, out)? {
+        Reply::Granted(end) => Ok((ExitCode::SUCCESS, &out[..end])),
+        Reply::Refused(end) => Ok((ExitCode::FAILURE, &out[..end])),
+    }
+}
+
 // Prints what is asked for of the listing on standard input, or why there is no such thing.
 fn main(rt: HostRuntime) -> anyhow::Result<ExitCode> {
     let heap = rt.alloc();
@@ -33,10 +55,9 @@ fn main(rt: HostRuntime) -> anyhow::Result<ExitCode> {
     };
     let mut input = Vec::new(heap);
     rt.stdin().read_to_end(&mut input)?;
-    let (status, text) = match reply_to(heap, request, input.as_slice())? {
-        Ok(text) => (ExitCode::SUCCESS, text),
-        Err(text) => (ExitCode::FAILURE, text),
-    };
-    rt.stdout().write_all(text.as_slice())?;
+    let mut out = buffer(heap, LONGEST_REPLY)?;
+    let mut readout = Readout::new(heap)?;
+    let (status, text) = answer(&mut readout, request, input.as_slice(), out.as_mut_slice())?;
+    rt.stdout().write_all(text)?;
     Ok(status)
 }

@@ -13,27 +13,27 @@ use Rattle.systems.proofs.Living.{live_taken, erased_gone}
 use Rattle.writing.specs.Writer.{State, lives, next, follow, Part, then, again, put, rest, front, begins, ends, empty, pop_first, pop_last, erase_empty, for_block, filled_sides}
 use Rattle.writing.proofs.Filled.{filled_next}
 use Rattle.writing.proofs.Lists.{put_here, put_there}
-use Rattle.writing.proofs.Parts.{AllSure}
+use Rattle.writing.proofs.Parts.{AllSure, again_none, then_none}
 use Rattle.std.specs.Borrow.{MutBor}
 use Rattle.leftover.specs.declared.store.Leftover.{Leftover}
-use Rattle.writer.specs.declared.store.Writer.{Writer}
+use Rattle.writer.specs.declared.store.Draft.{Draft}
 use Rattle.writer.specs.Following.{At, Follows, Wrote, Ready, Does}
 use Rattle.leftover.specs.Leaving.{begins_with, ends_with, is_emptied, length_of}
-use Rattle.writer.proofs.Following.{again_none, room_left, same_does, same_ready, then_none}
+use Rattle.writer.proofs.Following.{room_left, same_does, same_ready}
 use Rattle.writer.proofs.Joining.{blocks_letters, pairs_letters, sides_on}
 
-abbrev pub word_at : Writer → ℕ → Option Word
+abbrev pub word_at : Draft → ℕ → Option Word
 word_at w x = get_or w.left.now.words x None
 
 -- a part that makes one choice, if a test of the word passes
-module _ (p : Part) (choice : Choice) (test : Option Word → Bool) (w : Writer) (x : ℕ) (made : (st : State) → Follows w st → p st ≡ cond (test (word_at w x)) (choice ∷ []) []) where
+module _ (p : Part) (choice : Choice) (test : Option Word → Bool) (w : Draft) (x : ℕ) (made : (st : State) → Follows w st → p st ≡ cond (test (word_at w x)) (choice ∷ []) []) where
   one_made : test (word_at w x) ≡ true → (st : State) → Follows w st → p st ≡ choice ∷ []
   one_made e st follows = made st follows ∙ cond-true (test (word_at w x)) (choice ∷ []) [] e
 
   pub one_room : test (word_at w x) ≡ true → Ready p w → w.count < length w.list.now
   one_room e = room_left p w (λ st follows. let one : length (p st) ≡ 1 = ap length (one_made e st follows) in omega arith)
 
-  pub one_done : (v : Writer) (r : MutBor Leftover) → test (word_at w x) ≡ true → v.list.ghost_name ≡ w.list.ghost_name → Wrote (record { list = w.list; count = w.count; left = r }) (choice ∷ []) v → ((st : State) → Follows w st → AllSure st (choice ∷ []) → Follows v (next st choice)) → Does p w v
+  pub one_done : (v : Draft) (r : MutBor Leftover) → test (word_at w x) ≡ true → v.list.ghost_name ≡ w.list.ghost_name → Wrote (record { list = w.list; count = w.count; left = r }) (choice ∷ []) v → ((st : State) → Follows w st → AllSure st (choice ∷ []) → Follows v (next st choice)) → Does p w v
   one_done v r e same wrote behind = record { same = same; writes = writes }
     where
       writes : (σ : Words) (st : State) → At σ p w st → Wrote w (p st) v × Follows v (follow st (p st))
@@ -43,7 +43,7 @@ module _ (p : Part) (choice : Choice) (test : Option Word → Bool) (w : Writer)
           (record { long = wrote.long; put = wrote.put }, behind st at.follows (subst (AllSure st) is at.sure))
 
 -- which choices the three smallest parts make, by the word that the writer has
-module _ (w : Writer) (x : ℕ) (low : x < 26) where
+module _ (w : Draft) (x : ℕ) (low : x < 26) where
   first_test : (a : ℕ) (t : Bool) (u : Word) → begins_with a (cond t (Some u) None) ≡ (t && begins a u)
   first_test a true u = refl
   first_test a false u = refl
@@ -66,7 +66,7 @@ module _ (w : Writer) (x : ℕ) (low : x < 26) where
   erase_made st follows = ap (λ t. cond t (Erase x ∷ []) []) (sym (ap is_emptied (follows.words x low) ∙ empty_test (lives st x) (st.words x)))
 
 -- behind a pop
-module _ (w v : Writer) (x : ℕ) (low : x < 26) (choice : Choice) (g : Word → Word) (st : State) (follows : Follows w st)
+module _ (w v : Draft) (x : ℕ) (low : x < 26) (choice : Choice) (g : Word → Word) (st : State) (follows : Follows w st)
     (lives_on : (y : ℕ) → lives (next st choice) y ≡ lives st y)
     (left : (y : ℕ) → (next st choice).words y ≡ put st.words x (g (st.words x)) y)
     (words : v.left.now.words ≡ set w.left.now.words x (option_map g (word_at w x))) where
@@ -96,7 +96,7 @@ module _ (w v : Writer) (x : ℕ) (low : x < 26) (choice : Choice) (g : Word →
   pub popped_all : length v.left.now.words ≡ 26
   popped_all = ap length words ∙ length-set w.left.now.words x (option_map g (word_at w x)) ∙ follows.all
 
-module _ (w v : Writer) (x : ℕ) (low : x < 26) (filled : v.left.now.filled ≡ w.left.now.filled) (same : v.left.now.fresh ≡ w.left.now.fresh) (st : State) (follows : Follows w st) where
+module _ (w v : Draft) (x : ℕ) (low : x < 26) (filled : v.left.now.filled ≡ w.left.now.filled) (same : v.left.now.fresh ≡ w.left.now.fresh) (st : State) (follows : Follows w st) where
   pub left_follows : (a : ℕ) → v.left.now.words ≡ set w.left.now.words x (option_map rest (word_at w x)) → AllSure st (Left x a ∷ []) → Follows v (next st (Left x a))
   left_follows a words sure = record {
     words = popped_words w v x low (Left x a) rest st follows (λ y. live_taken st.stands (Left x a) y refl) (λ y. refl) words;
@@ -136,7 +136,7 @@ module _ (w v : Writer) (x : ℕ) (low : x < 26) (filled : v.left.now.filled ≡
   }
 
 -- behind a rule
-module _ (w v : Writer) (choice : Choice) (f : Side → Side) (g : Word → Word) (st : State) (follows : Follows w st)
+module _ (w v : Draft) (choice : Choice) (f : Side → Side) (g : Word → Word) (st : State) (follows : Follows w st)
     (lives_on : (y : ℕ) → lives (next st choice) y ≡ lives st y)
     (left : (y : ℕ) → (next st choice).words y ≡ g (st.words y))
     (in_sides : (u : Word) → f (map Letter u) ≡ map Letter (g u))
@@ -169,7 +169,7 @@ module _ (w v : Writer) (choice : Choice) (f : Side → Side) (g : Word → Word
     next = omega (arith, one_more, follows.next, made);
   }
 
-pub pair_follows : (w v : Writer) (a b : ℕ) (st : State) → Follows w st → v.left.now.words ≡ map (option_map (word_pairs a b w.left.now.fresh)) w.left.now.words → v.left.now.filled ≡ on_sides (side_pairs a b w.left.now.fresh) w.left.now.filled → v.left.now.fresh ≡ w.left.now.fresh + 1 → AllSure st (Pair a b ∷ []) → Follows v (next st (Pair a b))
+pub pair_follows : (w v : Draft) (a b : ℕ) (st : State) → Follows w st → v.left.now.words ≡ map (option_map (word_pairs a b w.left.now.fresh)) w.left.now.words → v.left.now.filled ≡ on_sides (side_pairs a b w.left.now.fresh) w.left.now.filled → v.left.now.fresh ≡ w.left.now.fresh + 1 → AllSure st (Pair a b ∷ []) → Follows v (next st (Pair a b))
 pair_follows w v a b st follows words filled one_more sure =
     let c : ℕ = w.left.now.fresh in
     joined_follows w v (Pair a b) (side_pairs a b c) (word_pairs a b c) st follows (λ y. live_taken st.stands (Pair a b) y refl)
@@ -178,7 +178,7 @@ pair_follows w v a b st follows words filled one_more sure =
     (filled_next st (Pair a b) sure.0.0 ∙ ap (λ k. map (word_pairs a b k) (filled_sides st)) (sym follows.next))
     (omega arith) words filled one_more
 
-pub block_follows : (w v : Writer) (a n : ℕ) (st : State) → Follows w st → v.left.now.words ≡ map (option_map (word_blocks a n w.left.now.fresh)) w.left.now.words → v.left.now.filled ≡ on_sides (side_blocks a n w.left.now.fresh) w.left.now.filled → v.left.now.fresh ≡ w.left.now.fresh + 1 → AllSure st (Block a n ∷ []) → Follows v (next st (Block a n))
+pub block_follows : (w v : Draft) (a n : ℕ) (st : State) → Follows w st → v.left.now.words ≡ map (option_map (word_blocks a n w.left.now.fresh)) w.left.now.words → v.left.now.filled ≡ on_sides (side_blocks a n w.left.now.fresh) w.left.now.filled → v.left.now.fresh ≡ w.left.now.fresh + 1 → AllSure st (Block a n ∷ []) → Follows v (next st (Block a n))
 block_follows w v a n st follows words filled one_more sure =
     let c : ℕ = w.left.now.fresh in
     joined_follows w v (Block a n) (side_blocks a n c) (word_blocks a n c) st follows (λ y. live_taken st.stands (Block a n) y refl)
@@ -188,7 +188,7 @@ block_follows w v a n st follows words filled one_more sure =
     (omega arith) words filled one_more
 
 -- a dead variable does nothing before blocks are joined, however many letters are counted of its word
-module _ (w : Writer) (x a : ℕ) (low : x < 26) where
+module _ (w : Draft) (x a : ℕ) (low : x < 26) where
   abbrev pub by_count : ℕ → Part
   by_count n = then (again n (pop_first a x)) (then (again n (pop_last a x)) (erase_empty x))
 
@@ -209,5 +209,5 @@ module _ (w : Writer) (x a : ℕ) (low : x < 26) where
   pub counted_ready : (n : ℕ) → n ≡ length_of (word_at w x) → Ready (for_block a x) w → Ready (by_count n) w
   counted_ready n is = same_ready (for_block a x) (by_count n) w (λ _ st follows _. sym (ap (λ m. by_count m st) is ∙ counted_block st follows))
 
-  pub counted_done : (n : ℕ) (v : Writer) → n ≡ length_of (word_at w x) → Does (by_count n) w v → Does (for_block a x) w v
+  pub counted_done : (n : ℕ) (v : Draft) → n ≡ length_of (word_at w x) → Does (by_count n) w v → Does (for_block a x) w v
   counted_done n v is = same_does (by_count n) (for_block a x) w v (λ _ st follows _. ap (λ m. by_count m st) is ∙ counted_block st follows)

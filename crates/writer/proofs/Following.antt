@@ -3,25 +3,31 @@ use Rattle.std.proofs.Common.{◌≡◌, ℕ, zero, suc, ◌+◌, ◌-◌, ◌<�
 use mathlib.Core.Logic.{∥∥₁_elim, ∥∥₁_map}
 use mathlib.Core.Bool.{Bool-set}
 use Rattle.std.proofs.lemmas.Bool.{lt-ltb, ltb-true}
+use Rattle.std.proofs.lemmas.List.{length-map, map-append}
+use Rattle.model.specs.Buffers.{Put}
 use Rattle.model.proofs.Buffers.{put_none, put_then}
 use Rattle.systems.specs.declared.Choice.{Choice}
 use Rattle.systems.specs.Sides.{Words}
+use Rattle.writing.specs.Records.{record_of}
 use Rattle.writing.specs.Writer.{State, follow, Part, then, again, each, from, variables}
 use Rattle.writing.specs.Counts.{weight}
 use Rattle.writing.proofs.Falls.{all_variables}
 use Rattle.writing.proofs.Limited.{Holds, holds_follow, run_falls}
 use Rattle.writing.proofs.Parts.{AllSure, sure_front, then_is, follow-++}
-use Rattle.writer.specs.declared.store.Writer.{Writer}
+use Rattle.writer.specs.declared.store.Draft.{Draft}
 use Rattle.writer.specs.Following.{Follows, Wrote, At, Ready, Does}
 
-pub wrote_none : (w : Writer) → Wrote w [] w
+pub wrote_none : (w : Draft) → Wrote w [] w
 wrote_none w = record { long = refl; put = put_none w.list.now w.count }
 
-wrote_then : (u v w : Writer) (xs ys : List Choice) → Wrote u xs v → Wrote v ys w → Wrote u (xs ++ ys) w
-wrote_then u v w xs ys a b = record { long = b.long ∙ a.long; put = put_then a.put b.put }
+wrote_then : (u v w : Draft) (xs ys : List Choice) → Wrote u xs v → Wrote v ys w → Wrote u (xs ++ ys) w
+wrote_then u v w xs ys a b = record {
+  long = b.long ∙ a.long;
+  put = subst (λ rs. Put u.list.now u.count rs w.list.now w.count) (sym (map-append record_of xs ys)) (put_then a.put b.put);
+}
 
 -- a part that makes the same choices wherever the writer may stand is the same
-pub same_does : (p q : Part) (u v : Writer) → ((σ : Words) (st : State) → Follows u st → Holds σ st → p st ≡ q st) → Does p u v → Does q u v
+pub same_does : (p q : Part) (u v : Draft) → ((σ : Words) (st : State) → Follows u st → Holds σ st → p st ≡ q st) → Does p u v → Does q u v
 same_does p q u v same done = record { same = done.same; writes = writes }
   where
     writes : (σ : Words) (st : State) → At σ q u st → Wrote u (q st) v × Follows v (follow st (q st))
@@ -30,12 +36,12 @@ same_does p q u v same done = record { same = done.same; writes = writes }
         subst (λ l. Wrote u l v × Follows v (follow st l)) is
         (done.writes σ st (record { follows = at.follows; holds = at.holds; sure = subst (AllSure st) (sym is) at.sure; room = at.room; list = at.list }))
 
-pub same_ready : (p q : Part) (w : Writer) → ((σ : Words) (st : State) → Follows w st → Holds σ st → p st ≡ q st) → Ready p w → Ready q w
+pub same_ready : (p q : Part) (w : Draft) → ((σ : Words) (st : State) → Follows w st → Holds σ st → p st ≡ q st) → Ready p w → Ready q w
 same_ready p q w same ready =
     ∥∥₁_map ready (λ h. (h.0, h.1, record { follows = h.2.follows; holds = h.2.holds; sure = subst (AllSure h.1) (same h.0 h.1 h.2.follows h.2.holds) h.2.sure; room = h.2.room; list = h.2.list }))
 
 -- of two parts the first may be written, and then the second
-pub at_front : (p q : Part) (σ : Words) (w : Writer) (st : State) → At σ (then p q) w st → At σ p w st
+pub at_front : (p q : Part) (σ : Words) (w : Draft) (st : State) → At σ (then p q) w st → At σ p w st
 at_front p q σ w st at = record {
   follows = at.follows;
   holds = at.holds;
@@ -44,7 +50,7 @@ at_front p q σ w st at = record {
   list = at.list;
 }
 
-pub at_behind : (p q : Part) (σ : Words) (u v : Writer) (st : State) → At σ (then p q) u st → Wrote u (p st) v × Follows v (follow st (p st)) → At σ q v (follow st (p st))
+pub at_behind : (p q : Part) (σ : Words) (u v : Draft) (st : State) → At σ (then p q) u st → Wrote u (p st) v × Follows v (follow st (p st)) → At σ q v (follow st (p st))
 at_behind p q σ u v st at done =
     let sure = sure_front st (p st) (q (follow st (p st))) (subst (AllSure st) (then_is p q st) at.sure) in
     let falls : length (p st) + weight (follow st (p st)) ≤ weight st = run_falls σ st (p st) at.holds sure.0 in
@@ -52,33 +58,33 @@ at_behind p q σ u v st at done =
       follows = done.1;
       holds = holds_follow σ st (p st) sure.0 at.holds;
       sure = sure.1;
-      room = omega (arith, falls, at.room, done.0.put.behind);
+      room = omega (arith, falls, at.room, done.0.put.behind, length-map (p st) record_of);
       list = omega (arith, at.list, done.0.long);
     }
 
-pub ready_front : (p q : Part) (w : Writer) → Ready (then p q) w → Ready p w
+pub ready_front : (p q : Part) (w : Draft) → Ready (then p q) w → Ready p w
 ready_front p q w ready = ∥∥₁_map ready (λ h. (h.0, h.1, at_front p q h.0 w h.1 h.2))
 
-pub ready_behind : (p q : Part) (u v : Writer) → Ready (then p q) u → Does p u v → Ready q v
+pub ready_behind : (p q : Part) (u v : Draft) → Ready (then p q) u → Does p u v → Ready q v
 ready_behind p q u v ready done = ∥∥₁_map ready (λ h. (h.0, follow h.1 (p h.1), at_behind p q h.0 u v h.1 h.2 (done.writes h.0 h.1 (at_front p q h.0 u h.1 h.2))))
 
-pub then_at : (p q : Part) (u v w : Writer) (st : State) → Wrote u (p st) v × Follows v (follow st (p st)) → Wrote v (q (follow st (p st))) w × Follows w (follow (follow st (p st)) (q (follow st (p st)))) → Wrote u (then p q st) w × Follows w (follow st (then p q st))
+pub then_at : (p q : Part) (u v w : Draft) (st : State) → Wrote u (p st) v × Follows v (follow st (p st)) → Wrote v (q (follow st (p st))) w × Follows w (follow (follow st (p st)) (q (follow st (p st)))) → Wrote u (then p q st) w × Follows w (follow st (then p q st))
 then_at p q u v w st first second =
     subst (λ l. Wrote u l w × Follows w (follow st l)) (sym (then_is p q st))
     (wrote_then u v w (p st) (q (follow st (p st))) first.0 second.0, subst (Follows w) (sym (follow-++ st (p st) (q (follow st (p st))))) second.1)
 
-pub does_then : (p q : Part) (u v w : Writer) → Does p u v → Does q v w → Does (then p q) u w
+pub does_then : (p q : Part) (u v w : Draft) → Does p u v → Does q v w → Does (then p q) u w
 does_then p q u v w first second = record {
   same = second.same ∙ first.same;
   writes = λ σ st at. let done = first.writes σ st (at_front p q σ u st at) in then_at p q u v w st done (second.writes σ (follow st (p st)) (at_behind p q σ u v st at done));
 }
 
 -- nothing is written
-pub does_none : (p : Part) (w : Writer) → ((st : State) → Follows w st → p st ≡ []) → Does p w w
+pub does_none : (p : Part) (w : Draft) → ((st : State) → Follows w st → p st ≡ []) → Does p w w
 does_none p w none = record { same = refl; writes = λ σ st at. subst (λ l. Wrote w l w × Follows w (follow st l)) (sym (none st at.follows)) (wrote_none w, at.follows) }
 
 -- there is room for a choice
-pub room_left : (p : Part) (w : Writer) → ((st : State) → Follows w st → 1 ≤ length (p st)) → Ready p w → w.count < length w.list.now
+pub room_left : (p : Part) (w : Draft) → ((st : State) → Follows w st → 1 ≤ length (p st)) → Ready p w → w.count < length w.list.now
 room_left p w some ready =
     ltb-true w.count (length w.list.now)
     (∥∥₁_elim ready (Bool-set _ _) (λ h.
@@ -86,16 +92,12 @@ room_left p w some ready =
     lt-ltb w.count (length w.list.now) (omega (arith, falls, some h.1 h.2.follows, h.2.room, h.2.list))))
 
 -- there is a number for the next letter
-pub next_letter : (p : Part) (w : Writer) → Ready p w → (fresh : ℕ) → fresh ≡ min (w.left.now.fresh + 1) 65535 → fresh ≡ w.left.now.fresh + 1
+pub next_letter : (p : Part) (w : Draft) → Ready p w → (fresh : ℕ) → fresh ≡ min (w.left.now.fresh + 1) 65535 → fresh ≡ w.left.now.fresh + 1
 next_letter p w ready fresh is =
     let small : w.left.now.fresh < 65535 =
     ltb-true w.left.now.fresh 65535
     (∥∥₁_elim ready (Bool-set _ _) (λ h. lt-ltb w.left.now.fresh 65535 (omega (arith, h.2.follows.next, h.2.holds.within.rules)))) in
     is ∙ grind (arith, small)
-
--- what comes behind a part that makes no choice
-pub then_none : (p q : Part) (st : State) → p st ≡ [] → then p q st ≡ q st
-then_none p q st none = then_is p q st ∙ ap (λ l. l ++ q (follow st l)) none
 
 -- a part for each of some numbers in turn
 
@@ -137,17 +139,17 @@ abbrev pub upto : (ℕ → Part) → ℕ → ℕ → Part
 upto p k j = each p (from k (j - k))
 
 module _ (p : ℕ → Part) (k : ℕ) where
-  pub upto_begins : (w : Writer) → Does (upto p k k) w w
+  pub upto_begins : (w : Draft) → Does (upto p k k) w w
   upto_begins w = let none : k - k ≡ 0 = omega arith in subst (λ n. Does (each p (from k n)) w w) (sym none) (does_none (each p (from k 0)) w (λ _ _. refl))
 
-  pub upto_next : (j : ℕ) (u v w : Writer) → k ≤ j → Does (upto p k j) u v → Does (p j) v w → Does (upto p k (j + 1)) u w
+  pub upto_next : (j : ℕ) (u v w : Draft) → k ≤ j → Does (upto p k j) u v → Does (p j) v w → Does (upto p k (j + 1)) u w
   upto_next j u v w le done here =
       let one_more : suc (j - k) ≡ (j + 1) - k = omega arith in
       let last : k + (j - k) ≡ j = omega arith in
       subst (λ n. Does (each p (from k n)) u w) one_more
       (same_does (then (upto p k j) (p j)) (each p (from k (suc (j - k)))) u w (λ _ st _ _. ap (λ i. then (upto p k j) (p i) st) (sym last) ∙ sym (each_more p k (j - k) st)) (does_then (upto p k j) (p j) u v w done here))
 
-  pub upto_ready : (j m : ℕ) (u v : Writer) → k ≤ j → j < m → Ready (upto p k m) u → Does (upto p k j) u v → Ready (p j) v
+  pub upto_ready : (j m : ℕ) (u v : Draft) → k ≤ j → j < m → Ready (upto p k m) u → Does (upto p k j) u v → Ready (p j) v
   upto_ready j m u v le less ready done =
       let n : ℕ = m - (j + 1) in
       let whole : m - k ≡ (j - k) + suc n = omega arith in
@@ -162,10 +164,10 @@ module _ (p : ℕ → Part) where
   a_to_z : each p variables ≡ upto p 0 26
   a_to_z = let n : all_variables.0 ≡ 26 - 0 = omega (arith, all_variables.1.1) in ap (each p) (all_variables.1.0 ∙ ap (from 0) n)
 
-  pub variables_ready : (x : ℕ) (u v : Writer) → x < 26 → Ready (each p variables) u → Does (upto p 0 x) u v → Ready (p x) v
+  pub variables_ready : (x : ℕ) (u v : Draft) → x < 26 → Ready (each p variables) u → Does (upto p 0 x) u v → Ready (p x) v
   variables_ready x u v low ready = upto_ready p 0 x 26 u v (omega arith) low (subst (λ q. Ready q u) a_to_z ready)
 
-  pub variables_done : (x : ℕ) (u v : Writer) → x ≡ 26 → Does (upto p 0 x) u v → Does (each p variables) u v
+  pub variables_done : (x : ℕ) (u v : Draft) → x ≡ 26 → Does (upto p 0 x) u v → Does (each p variables) u v
   variables_done x u v all done = subst (λ q. Does q u v) (sym a_to_z) (subst (λ i. Does (upto p 0 i) u v) all done)
 
 -- a part again and again
@@ -177,12 +179,8 @@ module _ (p : Part) where
   again_upto : (n : ℕ) (st : State) → again n p st ≡ upto (λ _. p) 0 n st
   again_upto n st = let same : n ≡ n - 0 = omega arith in again_each 0 n st ∙ ap (λ i. each (λ _. p) (from 0 i) st) same
 
-  pub again_ready : (i n : ℕ) (u v : Writer) → i < n → Ready (again n p) u → Does (upto (λ _. p) 0 i) u v → Ready p v
+  pub again_ready : (i n : ℕ) (u v : Draft) → i < n → Ready (again n p) u → Does (upto (λ _. p) 0 i) u v → Ready p v
   again_ready i n u v less ready = upto_ready (λ _. p) 0 i n u v (omega arith) less (same_ready (again n p) (upto (λ _. p) 0 n) u (λ _ st _ _. again_upto n st) ready)
 
-  pub again_done : (i n : ℕ) (u v : Writer) → i ≡ n → Does (upto (λ _. p) 0 i) u v → Does (again n p) u v
+  pub again_done : (i n : ℕ) (u v : Draft) → i ≡ n → Does (upto (λ _. p) 0 i) u v → Does (again n p) u v
   again_done i n u v all done = same_does (upto (λ _. p) 0 n) (again n p) u v (λ _ st _ _. sym (again_upto n st)) (subst (λ j. Does (upto (λ _. p) 0 j) u v) all done)
-
-  pub again_none : (n : ℕ) (st : State) → p st ≡ [] → again n p st ≡ []
-  again_none zero st none = refl
-  again_none (suc n) st none = then_none p (again n p) st none ∙ again_none n st none

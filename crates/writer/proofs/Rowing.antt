@@ -17,7 +17,7 @@ use Rattle.writing.proofs.Lengths.{rows_counted, rows_up_to, same_rows}
 use Rattle.writing.proofs.Limited.{Holds}
 use Rattle.writing.proofs.Parts.{then_is}
 use Rattle.writing.specs.Turns.{block_lengths}
-use Rattle.writer.specs.declared.store.Writer.{Writer}
+use Rattle.writer.specs.declared.store.Draft.{Draft}
 use Rattle.writer.specs.Following.{Follows, Ready, Does}
 use Rattle.leftover.specs.Noting.{mark_rows, noted_lengths}
 use Rattle.writer.proofs.Following.{does_none, same_does, same_ready, upto}
@@ -52,7 +52,7 @@ keep_same p q (suc count) k bound le same = ap₂ (λ t ns. cond t (k ∷ ns) ns
 abbrev pub Noted : List Bool → ℕ → List Equation → Type 0
 Noted noted a E = (n : ℕ) → n < 513 → get_or noted n false ≡ any (eqb n) (mark_rows a 0 (marks_of E))
 
-pub noted_right : (noted : List Bool) (a : ℕ) (w : Writer) (st : State) (σ : Words) → Noted noted a w.left.now.filled → Follows w st → Holds σ st → noted_lengths noted ≡ counted_lengths a (filled_sides st)
+pub noted_right : (noted : List Bool) (a : ℕ) (w : Draft) (st : State) (σ : Words) → Noted noted a w.left.now.filled → Follows w st → Holds σ st → noted_lengths noted ≡ counted_lengths a (filled_sides st)
 noted_right noted a w st σ right follows holds =
     let ws : List Word = filled_sides st in
     keep_same (λ n. get_or noted n false) (λ n. any (has_row a n) ws) 511 2 513 (omega arith) (λ n low. right n low ∙ rows_of_marks a n w.left.now.filled ws follows.filled) ∙
@@ -88,20 +88,20 @@ module _ (a : ℕ) (noted : List Bool) where
   abbrev pub block_at : ℕ → Part
   block_at = block_if a (λ n. get_or noted n false)
 
-  pub blocks_ready : (w : Writer) → Ready (λ _. map (Block a) (noted_lengths noted)) w → Ready (upto block_at 2 513) w
+  pub blocks_ready : (w : Draft) → Ready (λ _. map (Block a) (noted_lengths noted)) w → Ready (upto block_at 2 513) w
   blocks_ready w = same_ready (λ _. map (Block a) (noted_lengths noted)) (upto block_at 2 513) w (λ _ st _ _. sym (blocks_upto a (λ n. get_or noted n false) st))
 
-  pub blocks_done : (n : ℕ) (u v : Writer) → n ≡ 513 → Does (upto block_at 2 n) u v → Does (λ _. map (Block a) (noted_lengths noted)) u v
+  pub blocks_done : (n : ℕ) (u v : Draft) → n ≡ 513 → Does (upto block_at 2 n) u v → Does (λ _. map (Block a) (noted_lengths noted)) u v
   blocks_done n u v all done = same_does (upto block_at 2 513) (λ _. map (Block a) (noted_lengths noted)) u v (λ _ st _ _. blocks_upto a (λ n. get_or noted n false) st) (subst (λ m. Does (upto block_at 2 m) u v) all done)
 
   module _ (n : ℕ) where
-    pub block_ready : (w : Writer) → get_or noted n false ≡ true → Ready (block_at n) w → Ready (λ _. Block a n ∷ []) w
+    pub block_ready : (w : Draft) → get_or noted n false ≡ true → Ready (block_at n) w → Ready (λ _. Block a n ∷ []) w
     block_ready w e = same_ready (block_at n) (λ _. Block a n ∷ []) w (λ _ _ _ _. cond-true (get_or noted n false) (Block a n ∷ []) [] e)
 
-    pub block_done : (u v : Writer) → get_or noted n false ≡ true → Does (λ _. Block a n ∷ []) u v → Does (block_at n) u v
+    pub block_done : (u v : Draft) → get_or noted n false ≡ true → Does (λ _. Block a n ∷ []) u v → Does (block_at n) u v
     block_done u v e = same_does (λ _. Block a n ∷ []) (block_at n) u v (λ _ _ _ _. sym (cond-true (get_or noted n false) (Block a n ∷ []) [] e))
 
-    pub no_block : (w : Writer) → get_or noted n false ≡ false → Does (block_at n) w w
+    pub no_block : (w : Draft) → get_or noted n false ≡ false → Does (block_at n) w w
     no_block w e = does_none (block_at n) w (λ _ _. cond-false (get_or noted n false) (Block a n ∷ []) [] e)
 
 -- the two halves of a round of blocks
@@ -109,8 +109,8 @@ module _ (a : ℕ) (noted : List Bool) where
   abbrev pub blocks_noted : Part
   blocks_noted _ = map (Block a) (noted_lengths noted)
 
-  pub noted_ready : (w : Writer) → Noted noted a w.left.now.filled → Ready (rows_part a) w → Ready blocks_noted w
+  pub noted_ready : (w : Draft) → Noted noted a w.left.now.filled → Ready (rows_part a) w → Ready blocks_noted w
   noted_ready w right = same_ready (rows_part a) blocks_noted w (λ σ st follows holds. ap (map (Block a)) (sym (noted_right noted a w st σ right follows holds)))
 
-  pub noted_done : (u v : Writer) → Noted noted a u.left.now.filled → Does blocks_noted u v → Does (rows_part a) u v
+  pub noted_done : (u v : Draft) → Noted noted a u.left.now.filled → Does blocks_noted u v → Does (rows_part a) u v
   noted_done u v right = same_does blocks_noted (rows_part a) u v (λ σ st follows holds. ap (map (Block a)) (noted_right noted a u st σ right follows holds))

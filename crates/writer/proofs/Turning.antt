@@ -3,9 +3,12 @@ use Rattle.std.proofs.Common.{◌≡◌, ℕ, zero, suc, ◌+◌, ◌<◌, ◌�
 use mathlib.Core.Logic.{∥∥₁_elim, ∥∥₁_map}
 use mathlib.Core.Bool.{Bool-set}
 use Rattle.std.proofs.lemmas.Bool.{cond-true, cond-false, eq-eqb, ne_eqb, lt-ltb, ltb-true, le-leb, leb-true}
+use Rattle.std.proofs.lemmas.List.{length-map}
 use Rattle.model.specs.Spelling.{Word}
+use Rattle.systems.specs.declared.Choice.{Choice}
 use Rattle.systems.specs.declared.Choice.TheVariants.{Left}
 use Rattle.systems.specs.Sides.{Words}
+use Rattle.writing.specs.declared.ChoiceRecord.{ChoiceRecord}
 use Rattle.writing.specs.Writer.{State, Part, empty, erasures, first, first_live, follow, from, join_pair, lives, pop_first, then, variables}
 use Rattle.writing.specs.Counts.{weight}
 use Rattle.writing.proofs.Falls.{all_variables}
@@ -15,7 +18,7 @@ use Rattle.writing.proofs.Parts.{AllSure}
 use Rattle.writing.specs.Turns.{list_of, on_first, turn, turn_of, turns, turns_enough}
 use Rattle.writing.proofs.Rounds.{Out, turns_are_enough, written}
 use Rattle.writing.proofs.Turns.{erased_full, turn_sure}
-use Rattle.writer.specs.declared.store.Writer.{Writer}
+use Rattle.writer.specs.declared.store.Draft.{Draft}
 use Rattle.writer.specs.Following.{At, Starts, Does, Follows, Ready, Wrote}
 use Rattle.leftover.specs.Leaving.{begins_with, two_of}
 use Rattle.writer.proofs.Choosing.{first_made, word_at}
@@ -37,7 +40,7 @@ some_live : (t : Bool) (u : Word) → is_some (cond t (Some u) None) ≡ true �
 some_live true u e = refl
 some_live false u e = e
 
-module _ (w : Writer) (x : ℕ) (low : x < 26) (live : is_some (word_at w x) ≡ true) where
+module _ (w : Draft) (x : ℕ) (low : x < 26) (live : is_some (word_at w x) ≡ true) where
   pub alive : (st : State) → Follows w st → lives st x ≡ true
   alive st follows = some_live (lives st x) (st.words x) (ap is_some (sym (follows.words x low)) ∙ live)
 
@@ -78,7 +81,7 @@ first_same : (p q : ℕ → Bool) (n k : ℕ) → ((y : ℕ) → y < k + n → p
 first_same p q zero k same = refl
 first_same p q (suc n) k same = ap₂ (λ t o. cond t (Some k) o) (same k (omega arith)) (first_same p q n (suc k) (λ y low. same y (omega arith)))
 
-pub first_followed : (w : Writer) (st : State) → Follows w st → first (λ x. is_some (word_at w x)) variables ≡ first_live st
+pub first_followed : (w : Draft) (st : State) → Follows w st → first (λ x. is_some (word_at w x)) variables ≡ first_live st
 first_followed w st follows =
     let n : ℕ = all_variables.0 in
     let is : n ≡ 26 = all_variables.1.1 in
@@ -98,21 +101,21 @@ pub first_low : (p : ℕ → Bool) (x : ℕ) → first p variables ≡ Some x �
 first_low p x e = omega (arith, first_below p all_variables.0 0 x (ap (first p) (sym all_variables.1.0) ∙ e), all_variables.1.1)
 
 -- what is still to be written, and that it can be
-pub record ToGo (σ : Words) (w : Writer) (st : State) (fuel : ℕ) : Type 0 where
+pub record ToGo (σ : Words) (w : Draft) (st : State) (fuel : ℕ) : Type 0 where
   pub at : At σ (turns fuel) w st
   pub full : (y : ℕ) → y < 26 → lives st y ≡ true → empty (st.words y) ≡ false
   pub light : weight st < fuel
 
-abbrev pub Going : Writer → Type 0
+abbrev pub Going : Draft → Type 0
 Going w = ∥ ((σ : Words) × (st : State) × (fuel : ℕ) × ToGo σ w st fuel) ∥₁
 
 -- from u on what is still to be written is written at v
-pub record Ends (u v : Writer) : Type 0 where
+pub record Ends (u v : Draft) : Type 0 where
   pub same : v.list.ghost_name ≡ u.list.ghost_name
   pub writes : (σ : Words) (st : State) (fuel : ℕ) → ToGo σ u st fuel → Wrote u (turns fuel st) v × Follows v (follow st (turns fuel st))
 
 -- no variable is live
-pub ended : (w : Writer) → first (λ x. is_some (word_at w x)) variables ≡ None → Ends w w
+pub ended : (w : Draft) → first (λ x. is_some (word_at w x)) variables ≡ None → Ends w w
 ended w none = record { same = refl; writes = writes }
   where
     writes : (σ : Words) (st : State) (fuel : ℕ) → ToGo σ w st fuel → Wrote w (turns fuel st) w × Follows w (follow st (turns fuel st))
@@ -122,7 +125,7 @@ ended w none = record { same = refl; writes = writes }
         subst (λ l. Wrote w l w × Follows w (follow st l)) (sym is) (wrote_none w, left.at.follows)
 
 -- x is live first
-module _ (w : Writer) (x : ℕ) (low : x < 26) (here : first (λ x. is_some (word_at w x)) variables ≡ Some x) where
+module _ (w : Draft) (x : ℕ) (low : x < 26) (here : first (λ x. is_some (word_at w x)) variables ≡ Some x) where
   pub live_here : is_some (word_at w x) ≡ true
   live_here = first_some (λ x. is_some (word_at w x)) variables x here
 
@@ -147,7 +150,7 @@ module _ (w : Writer) (x : ℕ) (low : x < 26) (here : first (λ x. is_some (wor
   pub turn_ready : Going w → Ready (turn_of x) w
   turn_ready going = ∥∥₁_map going (λ h. let n = next_turn h.0 h.1 h.2 h.3 in (h.0, h.1, at_front (turn_of x) (list_of n.less) h.0 w h.1 n.at))
 
-  module _ (u : Writer) (turned : Does (turn_of x) w u) where
+  module _ (u : Draft) (turned : Does (turn_of x) w u) where
     pub erasures_ready : Going w → Ready erasures u
     erasures_ready going =
         ∥∥₁_map going (λ h.
@@ -156,7 +159,7 @@ module _ (w : Writer) (x : ℕ) (low : x < 26) (here : first (λ x. is_some (wor
         let behind = at_behind (turn_of x) (list_of n.less) h.0 w u h.1 n.at done in
         (h.0, follow h.1 (turn_of x h.1), at_front erasures (turns n.less) h.0 u (follow h.1 (turn_of x h.1)) behind))
 
-    module _ (v : Writer) (erased : Does erasures u v) where
+    module _ (v : Draft) (erased : Does erasures u v) where
       -- one step
       record Step (σ : Words) (st : State) (fuel : ℕ) : Type 0 where
         pub next : Next σ st fuel
@@ -190,7 +193,7 @@ module _ (w : Writer) (x : ℕ) (low : x < 26) (here : first (λ x. is_some (wor
       pub going_on : Going w → Going v
       going_on going = ∥∥₁_map going (λ h. let s = step h.0 h.1 h.2 h.3 in (h.0, follow (follow h.1 (turn_of x h.1)) (erasures (follow h.1 (turn_of x h.1))), s.next.less, s.left))
 
-      pub ends_later : (z : Writer) → Ends v z → Ends w z
+      pub ends_later : (z : Draft) → Ends v z → Ends w z
       ends_later z ends = record { same = ends.same ∙ erased.same ∙ turned.same; writes = writes }
         where
           writes : (σ : Words) (st : State) (fuel : ℕ) → ToGo σ w st fuel → Wrote w (turns fuel st) z × Follows z (follow st (turns fuel st))
@@ -207,13 +210,13 @@ module _ (w : Writer) (x : ℕ) (low : x < 26) (here : first (λ x. is_some (wor
           ltb-true w.count v.count
           (∥∥₁_elim going (Bool-set _ _) (λ h.
           let s = step h.0 h.1 h.2 h.3 in
-          lt-ltb w.count v.count (omega (arith, s.some, s.turn_done.0.put.behind, s.erasures_done.0.put.behind))))
+          lt-ltb w.count v.count (omega (arith, s.some, s.turn_done.0.put.behind, s.erasures_done.0.put.behind, length-map {A = Choice} {B = ChoiceRecord}))))
 
-pub few : (w : Writer) → Going w → w.count ≤ 1050
+pub few : (w : Draft) → Going w → w.count ≤ 1050
 few w going = leb-true w.count 1050 (∥∥₁_elim going (Bool-set _ _) (λ h. le-leb w.count 1050 (omega (arith, h.3.at.room))))
 
 -- the loop as a whole
-module _ (u v : Writer) (erased : Does erasures u v) where
+module _ (u v : Draft) (erased : Does erasures u v) where
   light_left : (σ : Words) (st : State) → At σ (list_of turns_enough) u st → ToGo σ v (follow st (erasures st)) turns_enough
   light_left σ st at =
       let last : At σ (turns turns_enough) v (follow st (erasures st)) = at_behind erasures (turns turns_enough) σ u v st at (erased.writes σ st (at_front erasures (turns turns_enough) σ u st at)) in
@@ -222,17 +225,17 @@ module _ (u v : Writer) (erased : Does erasures u v) where
   pub begins_going : Ready (list_of turns_enough) u → Going v
   begins_going ready = ∥∥₁_map ready (λ h. (h.0, follow h.1 (erasures h.1), turns_enough, light_left h.0 h.1 h.2))
 
-  pub all_written : (z : Writer) → Ends v z → Does (list_of turns_enough) u z
+  pub all_written : (z : Draft) → Ends v z → Does (list_of turns_enough) u z
   all_written z ends = record {
     same = ends.same ∙ erased.same;
     writes = λ σ st at. then_at erasures (turns turns_enough) u v z st (erased.writes σ st (at_front erasures (turns turns_enough) σ u st at)) (ends.writes σ (follow st (erasures st)) turns_enough (light_left σ st at));
   }
 
 -- where the rounds begin
-pub starts_at : (w : Writer) (σ : Words) (st : State) → w.count ≡ 0 → 1050 ≤ length w.list.now → Starts σ w.left.now st → At σ (list_of turns_enough) w st
+pub starts_at : (w : Draft) (σ : Words) (st : State) → w.count ≡ 0 → 1050 ≤ length w.list.now → Starts σ w.left.now st → At σ (list_of turns_enough) w st
 starts_at w σ st none room begins =
     let out : Out turns_enough st = written σ turns_enough st begins.holds (omega (arith, begins.light, turns_are_enough)) in
     record { follows = begins.leaves; holds = begins.holds; sure = subst (AllSure st) (sym out.is) out.sure; room = omega (arith, none, begins.light); list = room }
 
-pub starts_ready : (w : Writer) → w.count ≡ 0 → 1050 ≤ length w.list.now → ∥ ((σ : Words) × (st : State) × Starts σ w.left.now st) ∥₁ → Ready (list_of turns_enough) w
+pub starts_ready : (w : Draft) → w.count ≡ 0 → 1050 ≤ length w.list.now → ∥ ((σ : Words) × (st : State) × Starts σ w.left.now st) ∥₁ → Ready (list_of turns_enough) w
 starts_ready w none room begins = ∥∥₁_map begins (λ h. (h.0, h.1, starts_at w h.0 h.1 none room h.2))

@@ -6,12 +6,12 @@ ghost use Rattle.writing.specs.Turns.{block_lengths};
 ghost use Rattle.writer.specs.Following.{Does, Ready};
 ghost use Rattle.leftover.specs.Noting.{noted_lengths};
 
-use crate::store::Writer;
+use crate::store::Draft;
 use leftover::{Lengths, MOST_LETTERS};
 use model::Rule;
 use systems::Choice;
 
-impl Writer<'_> {
+impl Draft<'_> {
     // Puts the choice of a pair into the list, and joins.
     fn pair(&mut self, a: u16, b: u16)
         requires { Ready (λ _. Pair a b ∷ []) self.old }

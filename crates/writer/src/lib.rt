@@ -9,4 +9,4 @@ mod pops;
 mod store;
 mod turns;
 
-pub use list::write;
+pub use list::Writer;

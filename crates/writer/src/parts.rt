@@ -3,9 +3,9 @@ ghost use Rattle.std.specs.Prelude.{◌<◌};
 ghost use Rattle.writing.specs.Writer.{again, each, erase_empty, erasures, for_block, for_pair, pop_first, pop_last, pop_rows, variables};
 ghost use Rattle.writer.specs.Following.{Does, Ready};
 
-use crate::store::Writer;
+use crate::store::Draft;
 
-impl Writer<'_> {
+impl Draft<'_> {
     // Erases each live variable whose word is empty.
     pub(crate) fn erase_all(&mut self)
         requires { Ready erasures self.old }

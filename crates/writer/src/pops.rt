@@ -3,10 +3,11 @@ ghost use Rattle.systems.specs.declared.Choice.TheVariants.{Left, Right, Erase};
 ghost use Rattle.writing.specs.Writer.{erase_empty as erasing, pop_first as popping_first, pop_last as popping_last};
 ghost use Rattle.writer.specs.Following.{Does, Ready, Wrote};
 
-use crate::store::Writer;
+use crate::store::Draft;
 use systems::Choice;
+use writing::ChoiceRecord;
 
-impl Writer<'_> {
+impl Draft<'_> {
     // Puts one more choice into the list.
     pub(crate) fn put(&mut self, choice: Choice)
         requires { self.old.count < length self.old.list.now }
@@ -14,7 +15,7 @@ impl Writer<'_> {
         ensures wrote { Wrote self.old (choice ∷ []) self.new }
         ensures left { self.new.left.now ≡ self.old.left.now }
     {
-        self.list[self.count] = choice;
+        self.list[self.count] = ChoiceRecord::from(choice);
         self.count += 1;
     }
 

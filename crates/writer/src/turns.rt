@@ -2,23 +2,24 @@
 ghost use Rattle.std.specs.Prelude.{◌≡◌, ◌<◌, ◌≤◌, length, is_some, true, None, slice_index_or};
 ghost use Rattle.model.specs.Buffers.{Put};
 ghost use Rattle.systems.specs.Sides.{Words};
+ghost use Rattle.writing.specs.Records.{records_of};
 ghost use Rattle.writing.specs.Writer.{State};
 ghost use Rattle.writing.specs.Turns.{list_of, turn_of, turns_enough};
 ghost use Rattle.writer.specs.Following.{Starts, Does, Ready};
 
-use crate::store::Writer;
+use crate::store::Draft;
 use leftover::Leftover;
-use systems::Choice;
+use writing::ChoiceRecord;
 
-impl<'a> Writer<'a> {
+impl<'a> Draft<'a> {
     // Nothing is put into the list yet.
-    fn new(list: &'a mut [Choice], left: &'a mut Leftover) -> Writer<'a>
+    fn new(list: &'a mut [ChoiceRecord], left: &'a mut Leftover) -> Draft<'a>
         ensures same { result.list.ghost_name ≡ list.entry.ghost_name }
         ensures kept { result.list.now ≡ list.old }
         ensures none { result.count ≡ 0 }
         ensures left { result.left.now ≡ left.old }
     {
-        Writer {
+        Draft {
             list,
             count: 0,
             left,
@@ -54,13 +55,13 @@ impl<'a> Writer<'a> {
 }
 
 // Puts the choices of all rounds at the front of the list, leaves what stands behind them, and answers how many they are.
-pub(crate) fn write_rounds(list: &mut [Choice], left: &mut Leftover) -> usize
+pub(crate) fn write_rounds(list: &mut [ChoiceRecord], left: &mut Leftover) -> usize
     requires room { 1050 ≤ length list.old }
     requires starts { ∥ ((σ : Words) × (st : State) × Starts σ left.old st) ∥₁ }
     ensures long { length list.new ≡ length list.old }
-    ensures put { (σ : Words) (st : State) → Starts σ left.old st → Put list.old 0 (list_of turns_enough st) list.new result }
+    ensures put { (σ : Words) (st : State) → Starts σ left.old st → Put list.old 0 (records_of (list_of turns_enough st)) list.new result }
 {
-    let mut writer = Writer::new(list, left);
-    writer.write();
-    writer.count
+    let mut draft = Draft::new(list, left);
+    draft.write();
+    draft.count
 }

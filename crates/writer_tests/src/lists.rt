@@ -1,15 +1,17 @@
 // Lists that are written.
-use crate::tools::{FIRST, X, Y, list, one_equation, two_words, untouched, writes};
+use crate::tools::{FIRST, X, Y, list, one_equation, refuses, two_words, untouched, writes};
 use checker::System;
 use std::test::Fail;
 use systems::Choice;
-use writer::write;
+use writer::Writer;
+use writing::WriteRefusal;
 
 #[test]
 fn a_pair(rt: HostRuntime) -> Result<(), Fail> {
     let heap = rt.alloc();
     writes(
         heap,
+        &mut Writer::new(heap)?,
         &one_equation(heap, b"Xa", b"abY")?,
         &two_words(b"aba", (0, 2), (2, 1)),
         &[
@@ -28,6 +30,7 @@ fn one_pop_at_each_end(rt: HostRuntime) -> Result<(), Fail> {
     // Y's word still begins with b when the pair is joined
     writes(
         heap,
+        &mut Writer::new(heap)?,
         &one_equation(heap, b"Xb", b"aY")?,
         &two_words(b"abbb", (0, 2), (2, 2)),
         &[
@@ -46,6 +49,7 @@ fn a_block(rt: HostRuntime) -> Result<(), Fail> {
     let heap = rt.alloc();
     writes(
         heap,
+        &mut Writer::new(heap)?,
         &one_equation(heap, b"aX", b"Xa")?,
         &two_words(b"aa", (0, 2), (0, 0)),
         &[
@@ -63,6 +67,7 @@ fn block_lengths_rise(rt: HostRuntime) -> Result<(), Fail> {
     // the rows of a have 4, 3, 1 and 2 letters
     writes(
         heap,
+        &mut Writer::new(heap)?,
         &one_equation(heap, b"aaaabXbaa", b"aaaabXbaa")?,
         &two_words(b"aaaba", (0, 5), (0, 0)),
         &[
@@ -85,6 +90,7 @@ fn variables_in_their_order(rt: HostRuntime) -> Result<(), Fail> {
     // both words are empty, and X comes before Y
     writes(
         heap,
+        &mut Writer::new(heap)?,
         &one_equation(heap, b"YX", b"")?,
         &two_words(b"", (0, 0), (0, 0)),
         &[Choice::Erase(X), Choice::Erase(Y)],
@@ -95,8 +101,10 @@ fn variables_in_their_order(rt: HostRuntime) -> Result<(), Fail> {
 fn no_variable(rt: HostRuntime) -> Result<(), Fail> {
     let heap = rt.alloc();
     let given = two_words(b"", (0, 0), (0, 0));
-    writes(heap, &System::new(heap)?, &given, &[])?;
-    writes(heap, &one_equation(heap, b"ab", b"ab")?, &given, &[])
+    let mut writer = Writer::new(heap)?;
+    writes(heap, &mut writer, &System::new(heap)?, &given, &[])?;
+    let letters = one_equation(heap, b"ab", b"ab")?;
+    writes(heap, &mut writer, &letters, &given, &[])
 }
 
 #[test]
@@ -104,11 +112,59 @@ fn the_system_still_loads(rt: HostRuntime) -> Result<(), Fail> {
     let heap = rt.alloc();
     let mut system = one_equation(heap, b"X", b"a")?;
     let expected = [Choice::Left(X, 0), Choice::Erase(X)];
-    writes(heap, &system, &two_words(b"a", (0, 1), (0, 0)), &expected)?;
+    let given = two_words(b"a", (0, 1), (0, 0));
+    let mut writer = Writer::new(heap)?;
+    writes(heap, &mut writer, &system, &given, &expected)?;
     assert!(rt; system.load(b"X", b"b").is_ok());
     let mut list = list(heap, 1_050)?;
-    let given = two_words(b"a", (0, 1), (0, 0));
-    assert!(rt; write(heap, &system, &given, list.as_mut_slice()).is_err());
+    assert!(rt; writer.write(&system, &given, list.as_mut_slice()).is_err());
     assert!(rt; untouched(list.as_slice()));
+    Ok(())
+}
+
+#[test]
+fn one_writer_for_several_lists(rt: HostRuntime) -> Result<(), Fail> {
+    let heap = rt.alloc();
+    let mut writer = Writer::new(heap)?;
+    let pair = one_equation(heap, b"Xa", b"abY")?;
+    let block = one_equation(heap, b"aX", b"Xa")?;
+    let letters = vec![in heap; b'a'; 600]?;
+    for _ in 0..2 {
+        writes(
+            heap,
+            &mut writer,
+            &pair,
+            &two_words(b"aba", (0, 2), (2, 1)),
+            &[
+                Choice::Right(Y, 0),
+                Choice::Erase(Y),
+                Choice::Pair(0, 1),
+                Choice::Left(X, FIRST),
+                Choice::Erase(X),
+            ],
+        )?;
+        // refused in its midst, with a word filled in
+        let long = two_words(letters.as_slice(), (0, 9), (0, 600));
+        refuses(
+            heap,
+            &mut writer,
+            &pair,
+            &long,
+            1_050,
+            WriteRefusal::TooManyLetters,
+        )?;
+        writes(
+            heap,
+            &mut writer,
+            &block,
+            &two_words(b"aa", (0, 2), (0, 0)),
+            &[
+                Choice::Left(X, 0),
+                Choice::Left(X, 0),
+                Choice::Erase(X),
+                Choice::Block(0, 3),
+            ],
+        )?;
+    }
     Ok(())
 }

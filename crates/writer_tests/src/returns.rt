@@ -7,7 +7,7 @@ use measure::Measure;
 use std::alloc::Global;
 use std::test::Fail;
 use witness::Witness;
-use writer::write;
+use writer::Writer;
 
 // The witness spells this word for the variable.
 fn spells(heap: Global, witness: &Witness, variable: u8, word: &[u8]) -> Result<(), Fail> {
@@ -33,10 +33,10 @@ fn mixed(heap: Global, length: usize, last: u8) -> Result<Vec<u8>, Fail> {
 // The list that is written for these words leads to a witness; answers it, and how many choices were put.
 fn found(heap: Global, system: System, given: &GivenWords) -> Result<(Witness, usize), Fail> {
     let mut list = list(heap, 1_050)?;
-    let count = write(heap, &system, given, list.as_mut_slice())?;
+    let count = Writer::new(heap)?.write(&system, given, list.as_mut_slice())?;
     let mut opened = system.open();
-    for choice in &list.as_slice()[..count] {
-        opened.choose(*choice)?;
+    for record in &list.as_slice()[..count] {
+        opened.choose(record.choice)?;
     }
     let kind = Length::new([0; 26], [1_000_000; 26])?;
     let mut values = vec![in heap; kind.empty(); 538]?;

@@ -1,11 +1,11 @@
 // What the tests share.
 use checker::System;
-use given::{GivenWords, WriteError};
+use given::GivenWords;
 use std::alloc::Global;
 use std::test::Fail;
 use systems::Choice;
-use writer::write;
-use writing::Span;
+use writer::Writer;
+use writing::{ChoiceRecord, Span, WriteRefusal};
 
 // Two variables, and the first letter that is made.
 pub(crate) const X: u8 = 23;
@@ -45,33 +45,40 @@ pub(crate) fn two_words(buffer: &[u8], x: (usize, usize), y: (usize, usize)) -> 
 }
 
 // A list with room for so many choices, all of them the same.
-pub(crate) fn list(heap: Global, room: usize) -> Result<Vec<Choice>, Fail> {
-    Ok(vec![in heap; FILLING; room]?)
+pub(crate) fn list(heap: Global, room: usize) -> Result<Vec<ChoiceRecord>, Fail> {
+    Ok(vec![in heap; ChoiceRecord::from(FILLING); room]?)
 }
 
 // Whether all of the list is still what it was.
-pub(crate) fn untouched(list: &[Choice]) -> bool {
-    list.iter().all(|choice| *choice == FILLING)
+pub(crate) fn untouched(list: &[ChoiceRecord]) -> bool {
+    list.iter().all(|record| record.choice == FILLING)
+}
+
+// Whether these are the choices of the records.
+fn are_choices(records: &[ChoiceRecord], choices: &[Choice]) -> bool {
+    records.len() == choices.len()
+        && records
+            .iter()
+            .zip(choices)
+            .all(|(record, choice)| record.choice == *choice)
 }
 
 // The writer puts these choices at the front of a list, and leaves the others.
 pub(crate) fn writes(
     heap: Global,
+    writer: &mut Writer,
     system: &System,
     given: &GivenWords,
     expected: &[Choice],
 ) -> Result<(), Fail> {
     let mut list = list(heap, 1_100)?;
-    let Ok(count) = write(heap, system, given, list.as_mut_slice()) else {
+    let Ok(count) = writer.write(system, given, list.as_mut_slice()) else {
         return Err(Fail::new("the words are refused"));
     };
-    if count != expected.len() {
-        return Err(Fail::new("another number is answered"));
-    }
     let Some((front, tail)) = list.as_slice().split_at_checked(count) else {
         return Err(Fail::new("more choices are answered than there is room for"));
     };
-    if front != expected {
+    if !are_choices(front, expected) {
         return Err(Fail::new("another list is written"));
     }
     if !untouched(tail) {
@@ -83,13 +90,14 @@ pub(crate) fn writes(
 // The writer refuses so, and leaves a list with so much room as it was.
 pub(crate) fn refuses(
     heap: Global,
+    writer: &mut Writer,
     system: &System,
     given: &GivenWords,
     room: usize,
-    why: WriteError,
+    why: WriteRefusal,
 ) -> Result<(), Fail> {
     let mut list = list(heap, room)?;
-    if write(heap, system, given, list.as_mut_slice()) != Err(why) {
+    if writer.write(system, given, list.as_mut_slice()) != Err(why) {
         return Err(Fail::new("the words are answered otherwise"));
     }
     if !untouched(list.as_slice()) {

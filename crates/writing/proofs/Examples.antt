@@ -16,6 +16,7 @@ worked_lists = record {
   capital = refl;
   outside = refl;
   empty_outside = refl;
+  both_outside = refl;
   letters_512 = refl;
   letters_514 = refl;
   no_solution = refl;

@@ -1,8 +1,9 @@
 -- The words that a caller gives, filled in one variable after another, and what is refused of them. Assumes nothing.
-use Rattle.std.proofs.Common.{◌≡◌, ℕ, zero, suc, ◌+◌, ◌<◌, ◌≤◌, Bool, true, false, cond, not, ◌&&◌, eqb, ltb, ◌≢◌, ◌⊎◌, List, [], ◌∷◌, ◌++◌, map, length, Some, None, sym, refl, ap, ◌∙◌, subst, ap₂, inl, inr, append-nil, arith, length-append}
+use Rattle.std.proofs.Common.{◌≡◌, ℕ, ◌+◌, ◌<◌, ◌≤◌, Bool, true, false, cond, not, ◌&&◌, eqb, ltb, ◌≢◌, ◌⊎◌, List, [], ◌∷◌, ◌++◌, map, length, Some, None, Option, sym, refl, ap, ◌∙◌, ap₂, inl, inr, append-nil, arith, length-append}
 use Rattle.std.specs.List.{flat_map, AllByRecursion}
+use Rattle.std.specs.Option.{option_map, option_or}
 use Rattle.std.proofs.ByRecursion.{All-weaker}
-use Rattle.std.proofs.lemmas.Bool.{cond_both, cond-true, cond-false, and_parts, and_cases, and_from, and_left, and_right, cases_Bool, cases_lt, both_ways, eqb-true, eqb-false, eq-eqb, or_cases, or_from, or_left, or_right, false≢true, ltb-true, ltb-false, lt-ltb, le-ltb, not_from_true, not_from_false, false_from_ne_true}
+use Rattle.std.proofs.lemmas.Bool.{cond_both, cond-true, cond-false, and_parts, and_cases, and_from, and_left, and_right, cases_Bool, cases_lt, both_ways, eqb-true, eqb-false, eq-eqb, or_cases, false≢true, ltb-true, ltb-false, lt-ltb, le-ltb, not_from_true, not_from_false, false_from_ne_true}
 use Rattle.std.proofs.lemmas.List.{length-map, map-append}
 use Rattle.model.specs.Spelling.{Word}
 use Rattle.systems.specs.declared.Place.{Place}
@@ -14,11 +15,12 @@ use Rattle.systems.specs.Standings.{Standing, live}
 use Rattle.systems.proofs.Living.{each_stands, on_sides_on, on_sides_same, on_sides_self}
 use Rattle.systems.proofs.Rows.{all_each, joined_joined, joined_same}
 use Rattle.writing.specs.declared.Span.{Span}
+use Rattle.writing.specs.declared.WriteRefusal.{WriteRefusal}
 use Rattle.writing.specs.declared.WriteRefusal.TheVariants.{NoWord, TooManyLetters, NoSolution}
 use Rattle.writing.specs.Counts.{side_letters}
 use Rattle.writing.specs.Refusals.{span_of, is_word, given, solved, write_refusal}
-use Rattle.writing.specs.Writer.{beside, from, letters, variables}
-use Rattle.writing.proofs.Falls.{all_variables, in_variables}
+use Rattle.writing.specs.Writer.{beside, first, letters, variables}
+use Rattle.writing.proofs.First.{first_found, none_found}
 use Rattle.writing.proofs.Refusing.{is_solved, solved_means}
 
 -- a number below k is below the next, and no other number is but k
@@ -201,18 +203,6 @@ module _ (τ : Words) where
 
 -- what is refused where there is room
 
-any_at : (p : ℕ → Bool) (x : ℕ) (xs : List ℕ) → p x ≡ true → any (eqb x) xs ≡ true → any p xs ≡ true
-any_at p x [] e h = h
-any_at p x (y ∷ xs) e h = split (λ f. any_at p x xs e f) (or_cases (eqb x y) (any (eqb x) xs) h)
-  where
-    split : (any (eqb x) xs ≡ true → any p xs ≡ true) → (eqb x y ≡ true) ⊎ (any (eqb x) xs ≡ true) → any p (y ∷ xs) ≡ true
-    split more (inl f) = or_left (p y) (any p xs) (ap p (sym (eqb-true x y f)) ∙ e)
-    split more (inr f) = or_right (p y) (any p xs) (more f)
-
-none_from : (p : ℕ → Bool) (m n k : ℕ) → k + n ≤ m → ((x : ℕ) → x < m → p x ≡ false) → any p (from k n) ≡ false
-none_from p m zero k le none = refl
-none_from p m (suc n) k le none = or_from (p k) (any p (from (suc k) n)) (none k (omega arith)) (none_from p m n (suc k) (omega arith) none)
-
 module _ (S : Standing) (buffer : List ℕ) (spans : List Span) where
   abbrev τ : Words
   τ = given S buffer spans
@@ -220,31 +210,38 @@ module _ (S : Standing) (buffer : List ℕ) (spans : List Span) where
   abbrev bad : ℕ → Bool
   bad x = live S x && not (is_word buffer (span_of spans x))
 
-  pub no_word : (x : ℕ) → x < 26 → live S x ≡ true → is_word buffer (span_of spans x) ≡ false → write_refusal S buffer spans 1050 ≡ Some NoWord
-  no_word x low alive none =
-      cond-true (any bad variables) (Some NoWord) _ (any_at bad x variables (and_from (live S x) (not (is_word buffer (span_of spans x))) alive (not_from_false (is_word buffer (span_of spans x)) none)) (in_variables x low))
+  -- the reasons that come after the words
+  abbrev later : Option WriteRefusal
+  later = cond (ltb 512 (side_letters (beside S τ))) (Some TooManyLetters) (cond (not (solved τ S.equations)) (Some NoSolution) None)
+
+  abbrev by_words : Option ℕ → Option WriteRefusal
+  by_words o = option_or (option_map NoWord o) later
+
+  good : (x : ℕ) → (live S x ≡ true → is_word buffer (span_of spans x) ≡ true) → bad x ≡ false
+  good x word = split (cases_Bool (live S x))
+    where
+      split : (live S x ≡ true) ⊎ (live S x ≡ false) → bad x ≡ false
+      split (inl alive) = and_right (live S x) (not (is_word buffer (span_of spans x))) (not_from_true (is_word buffer (span_of spans x)) (word alive))
+      split (inr gone) = and_left (live S x) (not (is_word buffer (span_of spans x))) gone
+
+  pub no_word : (x : ℕ) → x < 26 → live S x ≡ true → is_word buffer (span_of spans x) ≡ false → ((y : ℕ) → y < x → live S y ≡ true → is_word buffer (span_of spans y) ≡ true) → write_refusal S buffer spans 1050 ≡ Some (NoWord x)
+  no_word x low alive none before =
+      ap by_words (first_found bad x low (and_from (live S x) (not (is_word buffer (span_of spans x))) alive (not_from_false (is_word buffer (span_of spans x)) none)) (λ y lt. good y (before y lt)))
 
   module _ (words : (x : ℕ) → x < 26 → live S x ≡ true → is_word buffer (span_of spans x) ≡ true) where
-    none_bad : any bad variables ≡ false
-    none_bad =
-        let is : all_variables.0 ≡ 26 = all_variables.1.1 in
-        subst (λ xs. any bad xs ≡ false) (sym all_variables.1.0) (none_from bad 26 all_variables.0 0 (omega arith) (λ x lt. split x lt (cases_Bool (live S x))))
-      where
-        split : (x : ℕ) → x < 26 → (live S x ≡ true) ⊎ (live S x ≡ false) → bad x ≡ false
-        split x lt (inl alive) = and_right (live S x) (not (is_word buffer (span_of spans x))) (not_from_true (is_word buffer (span_of spans x)) (words x lt alive))
-        split x lt (inr gone) = and_left (live S x) (not (is_word buffer (span_of spans x))) gone
+    none_bad : by_words (first bad variables) ≡ later
+    none_bad = ap by_words (none_found bad (λ x lt. good x (words x lt)))
 
     pub too_many_letters : 512 < side_letters (beside S τ) → write_refusal S buffer spans 1050 ≡ Some TooManyLetters
-    too_many_letters over =
-        cond-false (any bad variables) (Some NoWord) _ none_bad ∙ cond-true (ltb 512 (side_letters (beside S τ))) (Some TooManyLetters) _ (lt-ltb 512 (side_letters (beside S τ)) over)
+    too_many_letters over = none_bad ∙ cond-true (ltb 512 (side_letters (beside S τ))) (Some TooManyLetters) _ (lt-ltb 512 (side_letters (beside S τ)) over)
 
     module _ (few : side_letters (beside S τ) ≤ 512) where
       pub no_solution : (Solves τ S.equations → ⊥) → write_refusal S buffer spans 1050 ≡ Some NoSolution
       no_solution none =
-          cond-false (any bad variables) (Some NoWord) _ none_bad ∙ cond-false (ltb 512 (side_letters (beside S τ))) (Some TooManyLetters) _ (le-ltb 512 (side_letters (beside S τ)) few) ∙
+          none_bad ∙ cond-false (ltb 512 (side_letters (beside S τ))) (Some TooManyLetters) _ (le-ltb 512 (side_letters (beside S τ)) few) ∙
           cond-true (not (solved τ S.equations)) (Some NoSolution) None (not_from_false (solved τ S.equations) (false_from_ne_true (solved τ S.equations) (λ e. none (solved_means τ S.equations e))))
 
       pub no_refusal : Solves τ S.equations → write_refusal S buffer spans 1050 ≡ None
       no_refusal solves =
-          cond-false (any bad variables) (Some NoWord) _ none_bad ∙ cond-false (ltb 512 (side_letters (beside S τ))) (Some TooManyLetters) _ (le-ltb 512 (side_letters (beside S τ)) few) ∙
+          none_bad ∙ cond-false (ltb 512 (side_letters (beside S τ))) (Some TooManyLetters) _ (le-ltb 512 (side_letters (beside S τ)) few) ∙
           cond-false (not (solved τ S.equations)) (Some NoSolution) None (not_from_true (solved τ S.equations) (is_solved τ S.equations solves))

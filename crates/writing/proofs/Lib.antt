@@ -1,3 +1,4 @@
+pub mod Alike
 pub mod Examples
 pub mod Falls
 pub mod Filled

@@ -45,6 +45,14 @@ onward_is (choice ∷ more) q st = ap (λ r. choice ∷ r) (onward_is more q (ne
 pub then_is : (p q : Part) (st : State) → then p q st ≡ p st ++ q (follow st (p st))
 then_is p q st = onward_is (p st) q st
 
+-- what comes behind a part that makes no choice, and such a part again and again
+pub then_none : (p q : Part) (st : State) → p st ≡ [] → then p q st ≡ q st
+then_none p q st none = then_is p q st ∙ ap (λ l. l ++ q (follow st l)) none
+
+pub again_none : (p : Part) (n : ℕ) (st : State) → p st ≡ [] → again n p st ≡ []
+again_none p zero st none = refl
+again_none p (suc n) st none = then_none p (again n p) st none ∙ again_none p n st none
+
 abbrev pub AlwaysSure : Part → Type 0
 AlwaysSure p = (st : State) → AllSure st (p st)
 

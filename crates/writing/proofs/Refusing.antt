@@ -1,24 +1,26 @@
 -- What a caller gives to the writer is refused or taken rightly. Assumes nothing.
-use Rattle.std.proofs.Common.{◌≡◌, ℕ, ◌+◌, ◌-◌, ◌≤◌, Bool, true, false, not, ◌&&◌, eqb, ltb, leb, ◌⊎◌, List, [], ◌∷◌, map, length, None, sym, refl, ap, ◌∙◌, subst, ap₂, inl, inr, arith}
+use Rattle.std.proofs.Common.{◌≡◌, ℕ, ◌+◌, ◌-◌, ◌≤◌, Bool, true, false, cond, not, ◌&&◌, eqb, ltb, leb, ◌⊎◌, List, [], ◌∷◌, map, length, Some, None, Option, sym, refl, ap, ◌∙◌, subst, ap₂, inl, inr, arith}
 use Rattle.std.specs.List.{AllByRecursion}
-use Rattle.std.proofs.lemmas.Bool.{cond-true, cond-false, and_parts, and_cases, and_from, cases_Bool, both_ways, eqb-true, eq-eqb, or_cases, or_parts, false≢true, ltb-false, leb-true, le-ltb, le-leb, not_from_true, not-false, and_left, and_right}
+use Rattle.std.specs.Option.{option_map, option_or}
+use Rattle.std.proofs.lemmas.Bool.{cond-true, cond-false, and_parts, and_cases, and_from, cases_Bool, both_ways, eqb-true, eq-eqb, false≢true, ltb-false, leb-true, le-ltb, le-leb, not_from_true, not-false, and_left, and_right}
 use Rattle.model.specs.Spelling.{Word}
-use Rattle.systems.specs.Rows.{any}
 use Rattle.systems.specs.Runs.{Load, opened, loaded}
 use Rattle.systems.specs.Sides.{Side, Equation, sides, Words, fill, Solves, Below, Solution}
 use Rattle.systems.specs.Standings.{Standing, live}
 use Rattle.systems.proofs.Allowing.{not_refused}
 use Rattle.systems.proofs.Forming.{opened_formed}
 use Rattle.systems.proofs.Living.{fill_same}
-use Rattle.systems.proofs.Rows.{all_each, none_any}
 use Rattle.writing.specs.declared.Span.{Span}
+use Rattle.writing.specs.declared.WriteRefusal.{WriteRefusal}
 use Rattle.writing.specs.declared.WriteRefusal.TheVariants.{ShortList, NoWord, TooManyLetters, NoSolution}
 use Rattle.writing.specs.Counts.{side_letters}
 use Rattle.writing.specs.Refusals.{span_of, bytes_at, a_to_z, is_word, given, same_word, solved, write_refusal}
 use Rattle.writing.specs.Theorems.{start, StandInBuffer, RefusedRightly, WriterRefusesRightly}
-use Rattle.writing.specs.Writer.{letters, variables}
+use Rattle.writing.specs.Writer.{first, letters, variables}
 use Rattle.writing.proofs.Falls.{in_variables}
+use Rattle.writing.proofs.First.{none_found}
 use Rattle.writing.proofs.Limited.{live_low, passed}
+use Rattle.writing.proofs.Lists.{first_none}
 
 -- bytes and letters
 
@@ -69,14 +71,10 @@ letters_alike : (τ τ' : Words) (ss : List Side) → AllByRecursion (λ s. fill
 letters_alike τ τ' [] same = refl
 letters_alike τ τ' (s ∷ ss) same = ap₂ (λ m n. m + n) (ap length same.0) (letters_alike τ τ' ss same.1)
 
--- a test that none passes
-none_at : (p : ℕ → Bool) (xs : List ℕ) → any p xs ≡ false → (x : ℕ) → any (eqb x) xs ≡ true → p x ≡ false
-none_at p [] e x there = absurd (false≢true there)
-none_at p (y ∷ xs) e x there = split (λ f. none_at p xs (or_parts (p y) (any p xs) e).1 x f) (or_cases (eqb x y) (any (eqb x) xs) there)
-  where
-    split : (any (eqb x) xs ≡ true → p x ≡ false) → (eqb x y ≡ true) ⊎ (any (eqb x) xs ≡ true) → p x ≡ false
-    split more (inl here) = ap p (eqb-true x y here) ∙ (or_parts (p y) (any p xs) e).0
-    split more (inr f) = more f
+-- no word is the reason, and no later reason
+or_none : (o : Option ℕ) (r : Option WriteRefusal) → option_or (option_map NoWord o) r ≡ None → (o ≡ None) × (r ≡ None)
+or_none None r e = (refl, e)
+or_none (Some x) r e = absurd (let z : ◌≡◌ {A = ℕ} 0 1 = cc in omega arith)
 
 module _ (loads : List Load) (buffer : List ℕ) (spans : List Span) (room : ℕ) where
   abbrev S : Standing
@@ -87,6 +85,10 @@ module _ (loads : List Load) (buffer : List ℕ) (spans : List Span) (room : ℕ
 
   abbrev bad : ℕ → Bool
   bad x = live S x && not (is_word buffer (span_of spans x))
+
+  -- the reasons that come after the words
+  abbrev later : Option WriteRefusal
+  later = cond (ltb 512 (side_letters (start loads σ₀))) (Some TooManyLetters) (cond (not (solved σ₀ (loaded loads))) (Some NoSolution) None)
 
   given_is : (x : ℕ) → live S x ≡ true → σ₀ x ≡ map (λ b. b - 97) (bytes_at buffer (span_of spans x))
   given_is x of = cond-true (live S x) (map (λ b. b - 97) (bytes_at buffer (span_of spans x))) [] of
@@ -110,26 +112,26 @@ module _ (loads : List Load) (buffer : List ℕ) (spans : List Span) (room : ℕ
       let alike : AllByRecursion (λ s. fill σ s ≡ fill σ₀ s) (sides (loaded loads)) = fill_same σ σ₀ (loaded loads) (λ x of. sym (given_same σ stand x of)) in
       let same : side_letters (start loads σ) ≡ side_letters (start loads σ₀) = letters_alike σ σ₀ (sides (loaded loads)) alike in
       passed (ltb room 1050) _ _ (le-ltb room 1050 enough)
-      (passed (any bad variables) _ _ (none_any bad variables (all_each (λ x. bad x ≡ false) (not_bad σ solution stand) variables))
+      (ap (λ o. option_or (option_map NoWord o) later) (none_found bad (λ x _. not_bad σ solution stand x)) ∙
       (passed (ltb 512 (side_letters (start loads σ₀))) _ _ (le-ltb 512 (side_letters (start loads σ₀)) (omega arith))
       (passed (not (solved σ₀ (loaded loads))) _ _ (not_from_true (solved σ₀ (loaded loads)) (is_solved σ₀ (loaded loads) (solves_alike σ σ₀ (loaded loads) alike solution.solves))) refl)))
 
   record Meant : Type 0 where
     pub enough : 1050 ≤ room
-    pub words : any bad variables ≡ false
+    pub words : first bad variables ≡ None
     pub few : side_letters (start loads σ₀) ≤ 512
     pub solves : solved σ₀ (loaded loads) ≡ true
 
   meant : write_refusal S buffer spans room ≡ None → Meant
   meant none =
       let p = not_refused (ltb room 1050) ShortList _ none in
-      let q = not_refused (any bad variables) NoWord _ p.1 in
+      let q = or_none (first bad variables) _ p.1 in
       let r = not_refused (ltb 512 (side_letters (start loads σ₀))) TooManyLetters _ q.1 in
       let s = not_refused (not (solved σ₀ (loaded loads))) NoSolution None r.1 in
       record { enough = ltb-false room 1050 p.0; words = q.0; few = ltb-false 512 (side_letters (start loads σ₀)) r.0; solves = not-false (solved σ₀ (loaded loads)) s.0 }
 
-  given_small : any bad variables ≡ false → (x : ℕ) → (live S x ≡ true) ⊎ (live S x ≡ false) → Below 26 (σ₀ x)
-  given_small good x (inl of) = subst (Below 26) (sym (given_is x of)) (letters_below (bytes_at buffer (span_of spans x)) (split (and_cases (live S x) (not (is_word buffer (span_of spans x))) (none_at bad variables good x (in_variables x (live_low S (opened_formed loads) x of))))))
+  given_small : first bad variables ≡ None → (x : ℕ) → (live S x ≡ true) ⊎ (live S x ≡ false) → Below 26 (σ₀ x)
+  given_small good x (inl of) = subst (Below 26) (sym (given_is x of)) (letters_below (bytes_at buffer (span_of spans x)) (split (and_cases (live S x) (not (is_word buffer (span_of spans x))) (first_none bad variables good x (in_variables x (live_low S (opened_formed loads) x of))))))
     where
       split : (live S x ≡ false) ⊎ (not (is_word buffer (span_of spans x)) ≡ false) → a_to_z (bytes_at buffer (span_of spans x)) ≡ true
       split (inl other) = absurd (both_ways (live S x) other of)

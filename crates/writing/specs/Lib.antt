@@ -1,5 +1,6 @@
 pub mod Counting
 pub mod Counts
+pub mod Records
 pub mod Refusals
 pub mod Theorems
 pub mod Turns

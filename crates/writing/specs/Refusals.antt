@@ -1,19 +1,19 @@
 -- The words that a caller gives as parts of one buffer, and which refusal the writer meets, if any. Assumes nothing.
 use Rattle.std.specs.Prelude.{ℕ, ◌+◌, ◌-◌, Bool, true, false, cond, not, ◌&&◌, List, [], ◌∷◌, map, length, take, drop, Some, None, Option, ◌==◌, nat_le, nat_lt, slice_index_or}
+use Rattle.std.specs.Option.{option_map, option_or}
 use Rattle.model.specs.Spelling.{Word}
-use Rattle.systems.specs.Rows.{any}
 use Rattle.systems.specs.Sides.{Equation, Words, fill}
 use Rattle.systems.specs.Standings.{Standing, live}
 use Rattle.writing.specs.declared.Span.{Span}
 use Rattle.writing.specs.declared.WriteRefusal.{WriteRefusal}
 use Rattle.writing.specs.declared.WriteRefusal.TheVariants.{ShortList, NoWord, TooManyLetters, NoSolution}
 use Rattle.writing.specs.Counts.{side_letters}
-use Rattle.writing.specs.Writer.{beside, variables}
+use Rattle.writing.specs.Writer.{beside, first, variables}
 
 -- the number of each refusal
 abbrev pub write_number : WriteRefusal → ℕ
 write_number ShortList = 51
-write_number NoWord = 52
+write_number (NoWord x) = 52
 write_number TooManyLetters = 53
 write_number NoSolution = 54
 
@@ -50,11 +50,15 @@ abbrev pub solved : Words → List Equation → Bool
 solved τ [] = true
 solved τ (e ∷ more) = same_word (fill τ e.0) (fill τ e.1) && solved τ more
 
+-- the first variable of the system, from A, whose word is not given
+abbrev pub first_not_given : Standing → List ℕ → List Span → Option ℕ
+first_not_given S buffer spans = first (λ x. live S x && not (is_word buffer (span_of spans x))) variables
+
 -- the first reason, in this order, why no list is written, where the caller's list has room for so many choices
 abbrev pub write_refusal : Standing → List ℕ → List Span → ℕ → Option WriteRefusal
 write_refusal S buffer spans room =
     cond (nat_lt room 1050) (Some ShortList)
-    (cond (any (λ x. live S x && not (is_word buffer (span_of spans x))) variables) (Some NoWord)
+    (option_or (option_map NoWord (first_not_given S buffer spans))
     (cond (nat_lt 512 (side_letters (beside S (given S buffer spans)))) (Some TooManyLetters)
     (cond (not (solved (given S buffer spans) S.equations)) (Some NoSolution)
     None)))

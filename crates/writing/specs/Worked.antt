@@ -38,13 +38,15 @@ pub record WorkedLists : Type 0 where
   -- X is ab and Y is a, at the end of the buffer
   pub given_words : write_refusal two_variables (codes "aba") (two_spans (span 0 2) (span 2 1)) 1050 ≡ None
   pub short_list : write_refusal two_variables (codes "aba") (two_spans (span 0 2) (span 2 1)) 1049 ≡ Some ShortList
-  -- a byte that is none of a to z, a word that ends outside, an empty word that begins outside
-  pub capital : write_refusal two_variables (codes "abA") (two_spans (span 0 2) (span 2 1)) 1050 ≡ Some NoWord
-  pub outside : write_refusal two_variables (codes "aba") (two_spans (span 0 2) (span 2 2)) 1050 ≡ Some NoWord
-  pub empty_outside : write_refusal two_variables (codes "aba") (two_spans (span 0 2) (span 4 0)) 1050 ≡ Some NoWord
+  -- Y's word has a byte that is none of a to z, it ends outside, it is empty and begins outside
+  pub capital : write_refusal two_variables (codes "abA") (two_spans (span 0 2) (span 2 1)) 1050 ≡ Some (NoWord 24)
+  pub outside : write_refusal two_variables (codes "aba") (two_spans (span 0 2) (span 2 2)) 1050 ≡ Some (NoWord 24)
+  pub empty_outside : write_refusal two_variables (codes "aba") (two_spans (span 0 2) (span 4 0)) 1050 ≡ Some (NoWord 24)
+  -- neither word is given: X is the first
+  pub both_outside : write_refusal two_variables (codes "aba") (two_spans (span 3 2) (span 4 0)) 1050 ≡ Some (NoWord 23)
   -- X = X with 256 letters in its word, and with 257
   pub letters_512 : write_refusal (opened (one (codes "X") (codes "X"))) (replicate 256 97) (two_spans (span 0 256) (span 0 0)) 1050 ≡ None
   pub letters_514 : write_refusal (opened (one (codes "X") (codes "X"))) (replicate 257 97) (two_spans (span 0 257) (span 0 0)) 1050 ≡ Some TooManyLetters
   -- X is ab and Y is empty
   pub no_solution : write_refusal two_variables (codes "aba") (two_spans (span 0 2) (span 3 0)) 1050 ≡ Some NoSolution
-  pub numbers : map write_number (ShortList ∷ NoWord ∷ TooManyLetters ∷ NoSolution ∷ []) ≡ 51 ∷ 52 ∷ 53 ∷ 54 ∷ []
+  pub numbers : map write_number (ShortList ∷ NoWord 23 ∷ TooManyLetters ∷ NoSolution ∷ []) ≡ 51 ∷ 52 ∷ 53 ∷ 54 ∷ []

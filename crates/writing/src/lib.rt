@@ -7,23 +7,25 @@ ghost use Rattle.writing.specs.Refusals.{write_number};
 ghost use Rattle.writing.specs.Theorems.{Writable, WriterRefusesRightly};
 ghost use Rattle.writing.specs.Worked.{WorkedLists};
 
+use model::name::VariableName;
+use systems::Choice;
 use thiserror::Error;
 
-/// Why no list is written, each reason by its number.
+/// Why no list is written.
 #[derive(Clone, Copy, PartialEq, Eq, Debug, Error)]
 pub enum WriteRefusal {
     /// the caller's list has room for fewer than 1,050 choices
     #[error("the list has room for fewer than 1,050 choices")]
-    ShortList = 51,
-    /// the word of a variable of the system lies outside the buffer, or has a byte that is none of a to z
-    #[error("the word of a variable of the system lies outside the buffer, or has a byte that is none of a to z")]
-    NoWord = 52,
+    ShortList,
+    /// the word of this variable of the system, the first from A, lies outside the buffer, or has a byte that is none of a to z
+    #[error("the word of variable {} lies outside the buffer, or has a byte that is none of a to z", VariableName(*.0))]
+    NoWord(u8),
     /// the filled-in sides hold more than 512 letters
     #[error("all sides together, filled with the words, would have more than 512 letters")]
-    TooManyLetters = 53,
+    TooManyLetters,
     /// the words do not solve every equation
     #[error("the words do not solve every equation")]
-    NoSolution = 54,
+    NoSolution,
 }
 
 impl WriteRefusal {
@@ -31,7 +33,29 @@ impl WriteRefusal {
     pub fn number(self) -> u8
         ensures { result ≡ write_number self }
     {
-        self as u8
+        match self {
+            WriteRefusal::ShortList => 51,
+            WriteRefusal::NoWord(_) => 52,
+            WriteRefusal::TooManyLetters => 53,
+            WriteRefusal::NoSolution => 54,
+        }
+    }
+}
+
+// One choice of a written list. (A record, so that more can be told of a choice later: make one by `from`, not by its fields.)
+#[derive(Clone, Copy, PartialEq, Eq, Debug)]
+#[non_exhaustive]
+pub struct ChoiceRecord {
+    pub choice: Choice,
+}
+
+impl From<Choice> for ChoiceRecord {
+    ghost use Rattle.writing.specs.Records.{record_of};
+
+    ghost from_gives = { λ choice r. r ≡ record_of choice };
+
+    fn from(choice: Choice) -> ChoiceRecord {
+        ChoiceRecord { choice }
     }
 }
 

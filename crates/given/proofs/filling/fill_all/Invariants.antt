@@ -8,6 +8,7 @@ use Rattle.given.proofs.filling.fill_all.Given as goal
 
 abbrev pub invariant-loop-x : goal.invariant-loop-x
 invariant-loop-x l = record {
-  words : WordsBelow l.sides l.given.buffer.now l.given.spans l.x l.start.words;
-  filled : l.start.filled ≡ on_sides (filled_below (given (only l.sides) l.given.buffer.now l.given.spans) l.sides l.x) l.sides;
+  words : WordsBelow l.sides l.given.buffer.now l.given.spans l.x l.left.words;
+  filled : l.left.filled ≡ on_sides (filled_below (given (only l.sides) l.given.buffer.now l.given.spans) l.sides l.x) l.sides;
+  fresh : l.left.fresh ≡ 26;
 }

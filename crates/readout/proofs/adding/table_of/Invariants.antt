@@ -1,7 +1,9 @@
-use Rattle.std.proofs.Common.{◌≡◌, ◌++◌, vec_items}
+use Rattle.std.proofs.Common.{◌≡◌, ◌+◌, ◌*◌, ◌≤◌, ◌++◌, length}
 use Rattle.witness.specs.Holding.{contents_of}
 use Rattle.readout.specs.Rows.{rows}
 use Rattle.readout.proofs.adding.table_of.Given as goal
 
 abbrev pub invariant-loop-variable : goal.invariant-loop-variable
-invariant-loop-variable l = vec_items l.out ≡ vec_items l.initial.out ++ rows (contents_of l.witness) l.variable
+invariant-loop-variable l =
+    (l.text.items ≡ l.initial.text.items ++ rows (contents_of l.witness) l.variable)
+    × (length l.text.items ≤ 24 + 100 * l.variable)
