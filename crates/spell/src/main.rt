@@ -4,12 +4,19 @@
 
 use readout::{Readout, Reply, ReplyRefusal, Request, stretch_request};
 use std::alloc::{AllocError, Global};
-use std::env;
 use std::io::{Read, Write};
 use std::process::ExitCode;
+use std::{env, io};
 
-const USAGE: &str =
-    "usage: spell < LISTING, or spell VARIABLE START COUNT < LISTING with a variable A to Z and a count of at most 1000000";
+const HELP: &str =
+    "usage: spell < LISTING, or spell VARIABLE START COUNT < LISTING with a variable A to Z and a count of at most 1000000
+
+Reads a listing on standard input. Prints a table of its words, or just those letters of a word, with status 0; or a refusal, with status 1.
+
+  --help     prints this
+  --version  prints the version";
+
+const VERSION: &str = "spell 0.1.0";
 
 // A stretch of 1,000,000 letters and a newline.
 const LONGEST_REPLY: usize = 1_000_001;
@@ -46,13 +53,8 @@ fn answer<'a>(
 }
 
 // Prints what is asked for of the listing on standard input, or why there is no such thing.
-fn main(rt: HostRuntime) -> anyhow::Result<ExitCode> {
+fn run(rt: &HostRuntime, request: Request) -> anyhow::Result<ExitCode> {
     let heap = rt.alloc();
-    let words: Vec<String> = env::args(&rt)?.skip(1).collect(heap)?;
-    let Some(request) = request(words.as_slice()) else {
-        rt.eprintln(USAGE)?;
-        return Ok(ExitCode::FAILURE);
-    };
     let mut input = Vec::new(heap);
     rt.stdin().read_to_end(&mut input)?;
     let mut out = buffer(heap, LONGEST_REPLY)?;
@@ -60,4 +62,29 @@ fn main(rt: HostRuntime) -> anyhow::Result<ExitCode> {
     let (status, text) = answer(&mut readout, request, input.as_slice(), out.as_mut_slice())?;
     rt.stdout().write_all(text)?;
     Ok(status)
+}
+
+// Names the arguments that ask for nothing.
+fn name_unknown(rt: &HostRuntime, words: &[String]) -> io::Result<()> {
+    for word in words {
+        eprintln!(rt; "spell: unknown argument `{word}`")?;
+    }
+    rt.eprintln("spell: `spell --help` says how it is called")
+}
+
+// Does what the arguments ask for.
+fn main(rt: HostRuntime) -> anyhow::Result<ExitCode> {
+    let words: Vec<String> = env::args(&rt)?.skip(1).collect(rt.alloc())?;
+    if let Some(request) = request(words.as_slice()) {
+        return run(&rt, request);
+    }
+    match words.as_slice() {
+        [word] if word.as_str() == "--help" => rt.println(HELP)?,
+        [word] if word.as_str() == "--version" => rt.println(VERSION)?,
+        words => {
+            name_unknown(&rt, words)?;
+            return Ok(ExitCode::FAILURE);
+        }
+    }
+    Ok(ExitCode::SUCCESS)
 }
