@@ -51,3 +51,6 @@ pub returns-clause-every_solution : goal.returns-clause-every_solution
 returns-clause-every_solution c =
     let s = c.args.system.now in
     (outcome _ _ (loading s) s.run c.read.new.left c.in_ok-read.ensures c.args.list.now c.write_rounds.new.list c.write_rounds.result c.write_rounds.ensures.put).solutions _
+
+pub returns-clause-rightly : goal.returns-clause-rightly
+returns-clause-rightly c loads _ = writer_refuses_rightly loads _ _ _
