@@ -6,7 +6,7 @@ use Rattle.systems.specs.Runs.{Load, Reaches, choosing}
 use Rattle.systems.specs.Standings.{Standing}
 use Rattle.systems.proofs.Determined.{calls_decide_what_stands}
 
-pub no_item : {A : Type 0} (before : List A) (y : A) (behind : List A) → [] ≡ before ++ (y ∷ behind) → ⊥
+no_item : {A : Type 0} (before : List A) (y : A) (behind : List A) → [] ≡ before ++ (y ∷ behind) → ⊥
 no_item [] y behind e = let z : ◌≡◌ {A = ℕ} 0 1 = cc in omega arith
 no_item (b ∷ before) y behind e = let z : ◌≡◌ {A = ℕ} 0 1 = cc in omega arith
 

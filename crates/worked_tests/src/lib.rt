@@ -1,6 +1,6 @@
 // Small systems with known answers, where no other crate of tests has them.
 //
-// Others stand where what they test stands:
+// Others stand where what they test stands (which number each refusal has, its contract says):
 // - checker_tests, closes: Xb = ab by pair a b, left X a, erase X; no equations; X = empty;
 // - checker_tests, choices: right X b and then right X a spells ab;
 // - checker_tests, loads: aa at 1,023 places;
