@@ -1,5 +1,5 @@
 // Lists that are written.
-use crate::tools::{FIRST, X, Y, list, one_equation, refuses, two_words, untouched, writes};
+use crate::tools::{FIRST, X, Y, one_equation, refuses, two_words, writes};
 use checker::System;
 use std::test::Fail;
 use systems::Choice;
@@ -116,10 +116,14 @@ fn the_system_still_loads(rt: HostRuntime) -> Result<(), Fail> {
     let mut writer = Writer::new(heap)?;
     writes(heap, &mut writer, &system, &given, &expected)?;
     assert!(rt; system.load(b"X", b"b").is_ok());
-    let mut list = list(heap, 1_050)?;
-    assert!(rt; writer.write(&system, &given, list.as_mut_slice()).is_err());
-    assert!(rt; untouched(list.as_slice()));
-    Ok(())
+    refuses(
+        heap,
+        &mut writer,
+        &system,
+        &given,
+        1_050,
+        WriteRefusal::NoSolution,
+    )
 }
 
 #[test]

@@ -1,5 +1,5 @@
 // What the writer refuses.
-use crate::tools::{X, Y, list, one_equation, refuses, two_words};
+use crate::tools::{X, Y, one_equation, puts, refuses, two_words};
 use checker::System;
 use std::test::Fail;
 use writer::Writer;
@@ -30,9 +30,7 @@ fn a_short_list(rt: HostRuntime) -> Result<(), Fail> {
     )?;
     // also where no choice would be written
     refuses(heap, &mut writer, &System::new(heap)?, &given, 1_049, SHORT)?;
-    let mut list = list(heap, 1_050)?;
-    assert!(rt; writer.write(&system, &given, list.as_mut_slice()) == Ok(5));
-    Ok(())
+    puts(heap, &mut writer, &system, &given, 5)
 }
 
 #[test]
@@ -91,9 +89,8 @@ fn words_of_other_variables(rt: HostRuntime) -> Result<(), Fail> {
     let mut writer = Writer::new(heap)?;
     // every other variable has its word nowhere
     let given = two_words(b"a!", (0, 1), (1, 1));
-    let mut list = list(heap, 1_050)?;
     let system = one_equation(heap, b"X", b"a")?;
-    assert!(rt; writer.write(&system, &given, list.as_mut_slice()) == Ok(2));
+    puts(heap, &mut writer, &system, &given, 2)?;
     refuses(
         heap,
         &mut writer,
@@ -111,10 +108,9 @@ fn five_hundred_and_twelve_letters(rt: HostRuntime) -> Result<(), Fail> {
     let system = one_equation(heap, b"X", b"X")?;
     let letters = vec![in heap; b'a'; 2_000]?;
     let buffer = letters.as_slice();
-    let mut list = list(heap, 1_050)?;
     // 256 pops, an erasure and a block
     let fits = two_words(buffer, (0, 256), (0, 0));
-    assert!(rt; writer.write(&system, &fits, list.as_mut_slice()) == Ok(258));
+    puts(heap, &mut writer, &system, &fits, 258)?;
     for length in [257, 512, 513, 1_100, 2_000] {
         refuses(
             heap,

@@ -1,6 +1,6 @@
 // Written lists put to the opened check: each choice is taken, the close accepts, and the words come back.
 use crate::tools::{X, Y, list, one_equation, two_words};
-use checker::System;
+use checker::{Check, System};
 use given::GivenWords;
 use length::kind::Length;
 use measure::Measure;
@@ -8,6 +8,7 @@ use std::alloc::Global;
 use std::test::Fail;
 use witness::Witness;
 use writer::Writer;
+use writing::ChoiceRecord;
 
 // The witness spells this word for the variable.
 fn spells(heap: Global, witness: &Witness, variable: u8, word: &[u8]) -> Result<(), Fail> {
@@ -30,19 +31,43 @@ fn mixed(heap: Global, length: usize, last: u8) -> Result<Vec<u8>, Fail> {
     Ok(word)
 }
 
-// The list that is written for these words leads to a witness; answers it, and how many choices were put.
-fn found(heap: Global, system: System, given: &GivenWords) -> Result<(Witness, usize), Fail> {
-    let mut list = list(heap, 1_050)?;
-    let count = Writer::new(heap)?.write(&system, given, list.as_mut_slice())?;
-    let mut opened = system.open();
-    for record in &list.as_slice()[..count] {
-        opened.choose(record.choice)?;
+// How many choices the writer puts at the front of this list.
+fn put(
+    heap: Global,
+    system: &System,
+    given: &GivenWords,
+    list: &mut [ChoiceRecord],
+) -> Result<usize, Fail> {
+    Ok(Writer::new(heap)?.write(system, given, list)?)
+}
+
+// The check takes all of these choices.
+fn choose_all(check: &mut Check, records: &[ChoiceRecord]) -> Result<(), Fail> {
+    for record in records {
+        check.choose(record.choice)?;
     }
+    Ok(())
+}
+
+// The witness that the close gives, with no word limited.
+fn closed(heap: Global, check: &Check) -> Result<Witness, Fail> {
     let kind = Length::new([0; 26], [1_000_000; 26])?;
     let mut values = vec![in heap; kind.empty(); 538]?;
     let mut witness = Witness::new(heap)?;
-    opened.close(&kind, values.as_mut_slice(), &mut witness)?;
-    Ok((witness, count))
+    check.close(&kind, values.as_mut_slice(), &mut witness)?;
+    Ok(witness)
+}
+
+// The list that is written for these words leads to a witness; answers it, and how many choices were put.
+fn found(heap: Global, system: System, given: &GivenWords) -> Result<(Witness, usize), Fail> {
+    let mut list = list(heap, 1_050)?;
+    let count = put(heap, &system, given, list.as_mut_slice())?;
+    let Some(records) = list.as_slice().get(..count) else {
+        return Err(Fail::new("more choices are answered than there is room for"));
+    };
+    let mut check = system.open();
+    choose_all(&mut check, records)?;
+    Ok((closed(heap, &check)?, count))
 }
 
 #[test]

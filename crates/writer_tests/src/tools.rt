@@ -50,7 +50,7 @@ pub(crate) fn list(heap: Global, room: usize) -> Result<Vec<ChoiceRecord>, Fail>
 }
 
 // Whether all of the list is still what it was.
-pub(crate) fn untouched(list: &[ChoiceRecord]) -> bool {
+fn untouched(list: &[ChoiceRecord]) -> bool {
     list.iter().all(|record| record.choice == FILLING)
 }
 
@@ -61,6 +61,20 @@ fn are_choices(records: &[ChoiceRecord], choices: &[Choice]) -> bool {
             .iter()
             .zip(choices)
             .all(|(record, choice)| record.choice == *choice)
+}
+
+// These choices stand at the front of the list, so many as are answered, and behind them the list is what it was.
+fn shows(list: &[ChoiceRecord], count: usize, expected: &[Choice]) -> Result<(), Fail> {
+    let Some((front, tail)) = list.split_at_checked(count) else {
+        return Err(Fail::new("more choices are answered than there is room for"));
+    };
+    if !are_choices(front, expected) {
+        return Err(Fail::new("another list is written"));
+    }
+    if !untouched(tail) {
+        return Err(Fail::new("what stands behind the list has changed"));
+    }
+    Ok(())
 }
 
 // The writer puts these choices at the front of a list, and leaves the others.
@@ -75,14 +89,20 @@ pub(crate) fn writes(
     let Ok(count) = writer.write(system, given, list.as_mut_slice()) else {
         return Err(Fail::new("the words are refused"));
     };
-    let Some((front, tail)) = list.as_slice().split_at_checked(count) else {
-        return Err(Fail::new("more choices are answered than there is room for"));
-    };
-    if !are_choices(front, expected) {
-        return Err(Fail::new("another list is written"));
-    }
-    if !untouched(tail) {
-        return Err(Fail::new("what stands behind the list has changed"));
+    shows(list.as_slice(), count, expected)
+}
+
+// The writer answers that it put so many choices.
+pub(crate) fn puts(
+    heap: Global,
+    writer: &mut Writer,
+    system: &System,
+    given: &GivenWords,
+    count: usize,
+) -> Result<(), Fail> {
+    let mut list = list(heap, 1_050)?;
+    if writer.write(system, given, list.as_mut_slice()) != Ok(count) {
+        return Err(Fail::new("another number of choices is answered"));
     }
     Ok(())
 }
