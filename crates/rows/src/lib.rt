@@ -79,7 +79,8 @@ pub fn put_blocks<T: Copy + PartialEq, const N: usize>(
 {
     out.clear();
     let mut count = 0;
-    for item in items.as_slice() {
+    let mut ahead = items.as_slice();
+    while let [item, more @ ..] = ahead {
         if *item == a {
             count += 1;
         } else {
@@ -87,6 +88,7 @@ pub fn put_blocks<T: Copy + PartialEq, const N: usize>(
             put(out, *item);
             count = 0;
         }
+        ahead = more;
     }
     put_block(out, a, n, new, count);
 }

@@ -1,8 +1,10 @@
 // What is sought in the marks: the first variable, and the first equation whose sides differ.
-ghost use Rattle.std.specs.Prelude.{◌≡◌, ℕ, ◌<◌, min, false, length, slice_index_or};
+ghost use Rattle.std.specs.Prelude.{◌≡◌, ℕ, ◌<◌, min, false, length, MatchOption, slice_index_or};
 ghost use Rattle.std.specs.List.{after_first, before_first, filter_map, position, position_or_len, reduce};
+ghost use Rattle.systems.specs.declared.Place.TheVariants.{Variable};
 ghost use Rattle.systems.specs.Rows.{any};
 ghost use Rattle.systems.specs.Sides.{is_variable};
+ghost use Rattle.sides.specs.declared.mark.Mark.TheVariants.{At};
 ghost use Rattle.sides.specs.Marks.{lifted, Whole, equations_in};
 ghost use Rattle.sides.specs.Seeking.{any_variable_at, is_end, FirstUnequal};
 
@@ -29,15 +31,25 @@ pub(crate) fn least_variable(marks: &[Mark]) -> Option<u8>
     marks.iter().filter_map(|mark| variable(*mark)).min()
 }
 
+// The variable that stands here, if it is one of A to Z.
+fn capital(mark: Mark) -> Option<u8>
+    ensures { MatchOption result
+        ((y : ℕ) → y < 26 → lifted (is_variable y) mark ≡ false)
+        (λ x. (x < 26) × (mark ≡ At (Variable x))) }
+{
+    match mark {
+        Mark::At(Place::Variable(x)) => (x <= Z).then_some(x),
+        Mark::End | Mark::At(Place::Letter(_)) => None,
+    }
+}
+
 // For each variable from A to Z, whether it stands in a place.
 pub(crate) fn variables(marks: &[Mark]) -> [bool; 26]
     ensures { (x : ℕ) → x < 26 → slice_index_or result x false ≡ any (lifted (is_variable x)) marks.now }
 {
     let mut found = [false; 26];
     for mark in marks {
-        if let Some(x) = variable(*mark)
-            && x <= Z
-        {
+        if let Some(x) = capital(*mark) {
             found[usize::from(x)] = true;
         }
     }

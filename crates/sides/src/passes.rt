@@ -1,20 +1,33 @@
 // What is asked of the marks, and the pass that puts a row in each place of a variable.
 // It writes what the marks become into a second list, since no memory is asked for after `new`; the other passes do the same, in the crate `rows`.
 ghost use Rattle.std.specs.Prelude.{◌≡◌, ◌+◌, ◌≤◌, ◌++◌, map, length};
-ghost use Rattle.sides.specs.Marks.{mark_swap, count_of};
+ghost use Rattle.systems.specs.Sides.{is_variable};
+ghost use Rattle.sides.specs.Marks.{lifted, mark_swap, count_of};
 
 use crate::mark::{Mark, Marks, put};
 use systems::Place;
 
-// How many places the variable x has.
+// Whether the variable x stands here. (A match and no ==, which is compiled to a branch for each layer of a mark: on mixed marks none of them can be
+// foreseen.)
+fn is_variable(mark: Mark, x: u8) -> bool
+    ensures { result ≡ lifted (is_variable x) mark }
+{
+    match mark {
+        Mark::At(Place::Variable(y)) => x == y,
+        Mark::End | Mark::At(Place::Letter(_)) => false,
+    }
+}
+
+// How many places the variable x has. (A sum and no count of a filter, for the same reason.)
 pub(crate) fn count(marks: &[Mark], x: u8) -> usize
     ensures value { result ≡ count_of x marks.now }
     ensures bound { result ≤ length marks.now }
 {
-    marks
-        .iter()
-        .filter(|mark| **mark == Mark::At(Place::Variable(x)))
-        .count()
+    let mut n = 0;
+    for mark in marks {
+        n += usize::from(is_variable(*mark, x));
+    }
+    n
 }
 
 // Writes a row of places.
@@ -34,7 +47,7 @@ pub(crate) fn put_swapped(out: &mut Marks, marks: &[Mark], x: u8, row: &[Place])
 {
     out.clear();
     for mark in marks {
-        if *mark == Mark::At(Place::Variable(x)) {
+        if is_variable(*mark, x) {
             put_row(out, row);
         } else {
             put(out, *mark);

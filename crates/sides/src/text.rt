@@ -1,5 +1,5 @@
 // Sides as text.
-ghost use Rattle.std.specs.Prelude.{◌≡◌, ◌+◌, ◌<◌, ◌≤◌, [], ◌∷◌, ◌++◌, map, length};
+ghost use Rattle.std.specs.Prelude.{◌≡◌, ◌+◌, ◌<◌, ◌≤◌, [], ◌∷◌, ◌++◌, map, length, is_some};
 ghost use Rattle.systems.specs.Loading.{place_of, readable, side_of};
 
 use crate::mark::{Mark, Marks, put};
@@ -16,11 +16,18 @@ fn read(b: u8) -> Option<Place>
     }
 }
 
+// Whether the byte stands for a place. (Asked of the byte alone: no place is made for the answer.)
+fn is_readable(b: u8) -> bool
+    ensures { result ≡ is_some (place_of b) }
+{
+    matches!(char::from(b), 'a'..='z' | 'A'..='Z')
+}
+
 // Whether every byte stands for a place.
 pub(crate) fn is_text(bytes: &[u8]) -> bool
     ensures { result ≡ readable bytes.now }
 {
-    bytes.iter().all(|b| read(*b).is_some())
+    bytes.iter().all(|b| is_readable(*b))
 }
 
 // Writes the side that the bytes stand for, and its end.
