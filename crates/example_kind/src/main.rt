@@ -17,7 +17,7 @@ use std::alloc::Global;
 // The letters a, e, i, o and u.
 const VOWELS: u32 = 1 | 1 << 4 | 1 << 8 | 1 << 14 | 1 << 20;
 
-// Whether what the word spells passes for the variable A. (Refusals are told by numbers and have no text of their own, so the program says what failed.)
+// Whether what the word spells passes for the variable A. (The program says in its own words what failed.)
 fn answer<K: Measure>(heap: Global, kind: &K, word: &[u16]) -> anyhow::Result<bool> {
     // ab, a million times ab, and cab
     let rules = [

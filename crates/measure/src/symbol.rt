@@ -5,19 +5,33 @@ ghost use Rattle.std.specs.List.{range_with_len};
 
 use std::alloc::AllocError;
 use std::array;
+use std::fmt::{self, Debug, Formatter};
 use std::marker::PhantomData;
 
 // How many symbols an alphabet has.
 pub const SYMBOLS: usize = 26;
 
+/// An alphabet, by what one of its symbols is called where it is printed for a programmer.
+pub trait Alphabet {
+    const NAME: &'static str;
+}
+
 // The alphabet a to z.
 pub struct SmallLetters;
+
+impl Alphabet for SmallLetters {
+    const NAME: &'static str = "Letter";
+}
 
 // The alphabet A to Z.
 pub struct Capitals;
 
+impl Alphabet for Capitals {
+    const NAME: &'static str = "Variable";
+}
+
 // One of the 26 symbols of an alphabet.
-#[derive_where(Copy, PartialEq, Eq, Debug)]
+#[derive_where(Copy, PartialEq, Eq)]
 pub struct Symbol<A> {
     number: u8,
     alphabet: PhantomData<A>,
@@ -32,6 +46,15 @@ impl<A> Clone for Symbol<A> {
 
     fn clone(&self) -> Result<Symbol<A>, AllocError> {
         Ok(*self)
+    }
+}
+
+// Written out, so that a symbol prints as one of its alphabet: `Letter { number: 3 }`.
+impl<A: Alphabet> Debug for Symbol<A> {
+    fn fmt<W: fmt::Write>(&self, f: &mut Formatter<W>) -> fmt::Result {
+        f.debug_struct(A::NAME)
+            .field("number", &self.number)
+            .finish()
     }
 }
 

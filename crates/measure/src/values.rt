@@ -58,10 +58,13 @@ pub fn word_value<K: Measure>(kind: &K, table: &[K::Value], word: &[u16]) -> K::
     ensures by_table { result ≡ table_value (K.nothing kind.now) (K.joined kind.now) table.now word.now }
     ensures by_spelling { let k = kind.now in (rules : List Rule) → Filled (K.single k) (K.nothing k) (K.joined k) rules table.now → AllByRecursion (λ a. a < known rules) word.now → result ≡ word_value (K.single k) (K.nothing k) (K.joined k) (spell_word rules word.now) }
 {
+    // a `for` and no `fold`: the closure of a fold takes a value apart and puts it together again at each letter
     let values = Values { kind, table };
-    word.iter().fold(kind.empty(), |value, letter| {
-        kind.join(value, values.of_letter(*letter))
-    })
+    let mut value = kind.empty();
+    for letter in word {
+        value = kind.join(value, values.of_letter(*letter));
+    }
+    value
 }
 
 // A value joined `count` times, by repeated squaring: a count of 1,000,000 takes fewer than 30 joins. (A while, since the count is halved

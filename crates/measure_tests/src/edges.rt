@@ -159,6 +159,15 @@ fn all_letters_are_a_to_z(rt: HostRuntime) {
 }
 
 #[test]
+fn symbols_print_as_those_of_their_alphabet(rt: HostRuntime) -> Result<(), Fail> {
+    let letter = format!(in rt.alloc(); "{:?}", Letter::all()[3])?;
+    assert_eq!(rt; letter.as_str(), "Letter { number: 3 }");
+    let variable = format!(in rt.alloc(); "{:?}", Variable::all()[25])?;
+    assert_eq!(rt; variable.as_str(), "Variable { number: 25 }");
+    Ok(())
+}
+
+#[test]
 fn sets_hold_their_bits_alone(rt: HostRuntime) {
     for number in 0..=255 {
         assert_eq!(rt;
