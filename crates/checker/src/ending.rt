@@ -9,6 +9,7 @@ ghost use Rattle.guarantee.specs.Closing.{fails as does_fail, fills, or_else};
 ghost use Rattle.checker.specs.Ending.{meaning, reasons};
 ghost use Rattle.checker.specs.Holding.{standing, system_of};
 
+use crate::popped::Letters;
 use crate::store::Check;
 use guarantee::CloseRefusal;
 use measure::letter::LETTERS;
@@ -35,8 +36,14 @@ impl Check {
         Ok(())
     }
 
-    // Whether this is a variable of the system whose word does not pass.
-    fn fails<K: Measure>(&self, kind: &K, table: &[K::Value], variable: Variable) -> bool
+    // Whether this is a variable of the system whose word does not pass. (The list is lent for the word.)
+    fn fails<K: Measure>(
+        &self,
+        kind: &K,
+        table: &[K::Value],
+        variable: Variable,
+        letters: &mut Letters,
+    ) -> bool
         requires { let k = kind.now in Filled (K.single k) (K.nothing k) (K.joined k) (standing self.now).rules table.now }
         ensures { let k = kind.now in result ≡ does_fail (meaning (K.single k) (K.nothing k) (K.joined k) (K.passed k)) (system_of self.now) (standing self.now) variable.number }
     {
@@ -44,7 +51,8 @@ impl Check {
         if !self.system[usize::from(x)] {
             return false;
         }
-        let value = values::word_value(kind, table, self.word(x).as_slice());
+        self.put_word(letters, x);
+        let value = values::word_value(kind, table, letters.as_slice());
         !kind.passes(variable, value)
     }
 
@@ -54,8 +62,9 @@ impl Check {
         requires { let k = kind.now in Filled (K.single k) (K.nothing k) (K.joined k) (standing self.now).rules table.now }
         ensures { let k = kind.now in result ≡ first (does_fail (meaning (K.single k) (K.nothing k) (K.joined k) (K.passed k)) (system_of self.now) (standing self.now)) variables }
     {
+        let mut letters = Letters::new();
         for variable in Variable::all() {
-            if self.fails(kind, table, variable) {
+            if self.fails(kind, table, variable, &mut letters) {
                 return Some(variable.number());
             }
         }

@@ -7,6 +7,7 @@ ghost use Rattle.witness.specs.Holding.{contents_of, nothing};
 ghost use Rattle.checker.specs.Holding.{standing, system_of};
 ghost use Rattle.checker.specs.Popped.{lengthened_by, with_entries};
 
+use crate::popped::Letters;
 use crate::store::Check;
 use measure::variable::Variable;
 use witness::Witness;
@@ -34,13 +35,14 @@ impl Check {
         }
     }
 
-    // Adds the word of x that was popped, behind those of the variables before it.
-    fn add_word(&self, witness: &mut Witness, x: u8)
+    // Adds the word of x that was popped, behind those of the variables before it. (The list is lent for the word.)
+    fn add_word(&self, witness: &mut Witness, x: u8, letters: &mut Letters)
         requires { entry_fits (contents_of witness.old).rules (contents_of witness.old).entries (entry (standing self.now) x) ≡ true }
         ensures { contents_of witness.new ≡ with_entries (contents_of witness.old) (entry (standing self.now) x ∷ (contents_of witness.old).entries) }
     {
         witness.start_word(x).unwrap();
-        add_letters(witness, self.word(x).as_slice());
+        self.put_word(letters, x);
+        add_letters(witness, letters.as_slice());
     }
 
     // Adds the word of each variable of the system, from A to Z.
@@ -48,10 +50,11 @@ impl Check {
         requires { contents_of witness.old ≡ record { rules = (standing self.now).rules; entries = [] } }
         ensures { contents_of witness.new ≡ what_is_found (system_of self.now) (standing self.now) }
     {
+        let mut letters = Letters::new();
         for variable in Variable::all() {
             let x = variable.number();
             if self.system[usize::from(x)] {
-                self.add_word(witness, x);
+                self.add_word(witness, x, &mut letters);
             }
         }
     }

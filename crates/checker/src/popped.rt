@@ -10,8 +10,8 @@ use arrayvec::ArrayVec;
 use stand::MOST_POPS;
 use systems::Pop;
 
-// The letters of a word.
-type Letters = ArrayVec<u16, MOST_POPS>;
+// The letters of a word. (A close lends one such list to each word in turn: a list of its own for each would be cleared and copied for each.)
+pub(crate) type Letters = ArrayVec<u16, MOST_POPS>;
 
 // The letter that this pop took at the left of x. (A function for either side, since a pattern is no value that a call could pass on.)
 fn at_left(pop: Pop, x: u8) -> Option<u16>
@@ -43,26 +43,25 @@ fn add(letters: &mut Letters, letter: Option<u16>)
     }
 }
 
-// The letters popped at the left of x in order, and behind them those popped at its right, the last first.
-fn word_of(pops: &[Pop], x: u8) -> Letters
+// Puts the letters popped at the left of x in order, and behind them those popped at its right, the last first, in place of what the list held.
+fn put_word(letters: &mut Letters, pops: &[Pop], x: u8)
     requires { length pops.now ≤ 1024 }
-    ensures { result.items ≡ word_from pops.now x }
+    ensures { letters.new.items ≡ word_from pops.now x }
 {
-    let mut letters = Letters::new();
+    letters.clear();
     for pop in pops {
-        add(&mut letters, at_left(*pop, x));
+        add(letters, at_left(*pop, x));
     }
     for pop in pops.iter().rev() {
-        add(&mut letters, at_right(*pop, x));
+        add(letters, at_right(*pop, x));
     }
-    letters
 }
 
 impl Check {
-    // The word of x that was popped.
-    pub(crate) fn word(&self, x: u8) -> Letters
-        ensures { result.items ≡ popped_word (standing self.now) x }
+    // Puts the word of x that was popped in place of what the list held.
+    pub(crate) fn put_word(&self, letters: &mut Letters, x: u8)
+        ensures { letters.new.items ≡ popped_word (standing self.now) x }
     {
-        word_of(self.stand.pops(), x)
+        put_word(letters, self.stand.pops(), x);
     }
 }

@@ -19,7 +19,7 @@ add_letters-requires c =
     let e : Entry = entry (standing c.args.self.now) c.args.x in
     let fits = entry_after old.rules old.entries e c.requires in
     let started : contents_of c.start_word.new.self ≡ with_word c.args.x old = word_starts old (contents_of c.start_word.new.self) e c.start_word.result c.requires c.start_word.ensures in
-    let letters : c.as_slice.result.now ≡ e.word = c.as_slice.ensures.value ∙ c.word.ensures in
+    let letters : c.as_slice.result.now ≡ e.word = c.as_slice.ensures.value ∙ c.put_word.ensures in
     record {
       started = omega (arith, ap (λ k. length k.entries) started);
       below = ap (λ k. all_below (known k.rules) c.as_slice.result.now) started ∙ ap (all_below (known old.rules)) letters ∙ fits.low;
@@ -31,5 +31,5 @@ returns c =
     let old : Contents = contents_of c.args.witness.now in
     let e : Entry = entry (standing c.args.self.now) c.args.x in
     let started : contents_of c.start_word.new.self ≡ with_word c.args.x old = word_starts old (contents_of c.start_word.new.self) e c.start_word.result c.requires c.start_word.ensures in
-    let letters : c.as_slice.result.now ≡ e.word = c.as_slice.ensures.value ∙ c.word.ensures in
+    let letters : c.as_slice.result.now ≡ e.word = c.as_slice.ensures.value ∙ c.put_word.ensures in
     c.add_letters.ensures ∙ λ i. with_entries (started i) (lengthened_by (letters i) (started i).entries)

@@ -1,7 +1,7 @@
 use Rattle.std.proofs.Common.{◌≡◌, ◌++◌, reverse, length, take}
 use Rattle.std.specs.List.{flat_map}
 use Rattle.systems.specs.Standings.{left_of, right_of}
-use Rattle.checker.proofs.popped.word_of.Given as goal
+use Rattle.checker.proofs.popped.put_word.Given as goal
 
 abbrev pub invariant-loop-pop : goal.invariant-loop-pop
 invariant-loop-pop l = l.letters.items ≡ flat_map (left_of l.x) (take l.pop-index l.pops)

@@ -6,10 +6,10 @@ use Rattle.std.proofs.lemmas.List.{length-reverse, length_push, take_all}
 use Rattle.systems.specs.declared.Pop.TheVariants.{AtLeft}
 use Rattle.systems.specs.Standings.{left_of, right_of}
 use Rattle.checker.proofs.Popping.{front_more, front_room, no_more_letters, rights_back}
-use Rattle.checker.proofs.popped.word_of.Goals as goal
+use Rattle.checker.proofs.popped.put_word.Goals as goal
 
 pub loop-pop-init : goal.loop-pop-init
-loop-pop-init c = c.new-letters.ensures
+loop-pop-init c = c.clear.ensures
 
 pub add-requires : goal.add-requires
 add-requires c =
