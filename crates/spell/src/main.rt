@@ -18,8 +18,8 @@ Reads a listing on standard input. Prints a table of its words, or just those le
 
 const VERSION: &str = "spell 0.1.0";
 
-// A stretch of 1,000,000 letters and a newline.
-const LONGEST_REPLY: usize = 1_000_001;
+// Every table, and every text of a refusal, has fewer bytes.
+const TABLE_ROOM: usize = 4_000;
 
 // What the arguments ask for, if they ask for something.
 fn request(words: &[String]) -> Option<Request> {
@@ -34,8 +34,12 @@ fn request(words: &[String]) -> Option<Request> {
     }
 }
 
-// A buffer of so many bytes. (A function of its own, whose proof has no number of a million.)
-fn buffer(heap: Global, length: usize) -> Result<Vec<u8>, AllocError> {
+// A buffer that has room for the reply and is not much longer: behind a stretch there is a newline.
+fn buffer(heap: Global, request: Request) -> Result<Vec<u8>, AllocError> {
+    let length = match request {
+        Request::Table => TABLE_ROOM,
+        Request::Stretch(stretch) => stretch.count.saturating_add(1).max(TABLE_ROOM),
+    };
     vec![in heap; 0; length]
 }
 
@@ -57,7 +61,7 @@ fn run(rt: &HostRuntime, request: Request) -> anyhow::Result<ExitCode> {
     let heap = rt.alloc();
     let mut input = Vec::new(heap);
     rt.stdin().read_to_end(&mut input)?;
-    let mut out = buffer(heap, LONGEST_REPLY)?;
+    let mut out = buffer(heap, request)?;
     let mut readout = Readout::new(heap)?;
     let (status, text) = answer(&mut readout, request, input.as_slice(), out.as_mut_slice())?;
     rt.stdout().write_all(text)?;
